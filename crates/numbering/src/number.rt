@@ -1,0 +1,42 @@
+// Number: the strip's place in the book of its stock.
+use choose::table;
+use stock::Refusal;
+use stock::check_strip;
+use crate::numbers::number_of;
+use crate::totals::total_of;
+ghost use mathlib.Core.Path.{_≡_};
+ghost use Rattle.numbering.specs.Answers.{numberAnswer};
+
+// What Number answers.
+#[repr(C)]
+pub struct Numbered {
+    pub refusal: Refusal,
+    pub number: u64,
+}
+
+// The strip's place in the book of its stock.
+pub fn number(stock: &[u16], strip: &[u8]) -> Numbered
+    ensures { λ r. ⌜ r ≡ numberAnswer (now (stock .entry)) (now (strip .entry)) ⌝ }
+{
+    let checked = check_strip(stock, strip);
+    let no = checked.no;
+    if no != 0 {
+        return Numbered {
+            refusal: checked,
+            number: 0,
+        };
+    }
+    let rows = table();
+    let strips = total_of(&rows, stock);
+    if strips == 0 {
+        return Numbered {
+            refusal: Refusal { no: 7, place: 0 },
+            number: 0,
+        };
+    }
+    let found = number_of(&rows, stock, strip);
+    Numbered {
+        refusal: Refusal { no: 0, place: 0 },
+        number: found,
+    }
+}
