@@ -1,0 +1,18 @@
+-- TO BE BELIEVED. What `next` and `prev` answer.
+use Prim.Native.Nat.{ℕ}
+use mathlib.Core.Bool.{Bool, true, false}
+use mathlib.Core.Option.{Option, none, some}
+use Rattle.pattern.specs.declared.moves.Step.{Step}
+
+-- the two places to exchange, from 0, smaller first; where there is no move, both are 0
+abbrev pub step : Option (ℕ × ℕ) → Step
+step none = record { found = false; low = 0; high = 0 }
+step (some pq) = record { found = true; low = pq .0; high = pq .1 }
+
+abbrev pub pickStep : Bool → Step → Step → Step
+pickStep true s t = s
+pickStep false s t = t
+
+-- a step that was found, or else the one that exchanges these places
+abbrev pub orPlaces : Step → ℕ → ℕ → Step
+orPlaces s low high = pickStep (s .found) s (step (some (low, high)))
