@@ -1,9 +1,9 @@
 // Number: the strip's place in the book of its stock.
+use crate::numbers::number_of;
+use crate::totals::total_of;
 use choose::table;
 use stock::Refusal;
 use stock::check_strip;
-use crate::numbers::number_of;
-use crate::totals::total_of;
 ghost use mathlib.Core.Path.{_≡_};
 ghost use Rattle.numbering.specs.Answers.{numberAnswer};
 

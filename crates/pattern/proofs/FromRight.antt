@@ -9,7 +9,8 @@ use lib.Seq.{take-suc, take-take, take-set-le, drop-cons, drop-set-lt, getD-set-
 use Rattle.rules.specs.Stock.{binom}
 use Rattle.rules.specs.Book.{Word, E, lay}
 use Rattle.rules.proofs.Listed.{face, face-lt}
-use Rattle.rules.proofs.Patterns.{countR, countR-reverse, binom-suc, binom-zero, E-at, unrank, unrank-is}
+use Rattle.rules.proofs.Turned.{binom-zero}
+use Rattle.rules.proofs.Patterns.{countR, countR-reverse, binom-suc, E-at, unrank, unrank-is}
 use Rattle.rules.proofs.Laying.{unrank-K, unrank-R, lay-K, lay-R, lay-all-R}
 
 -- the blocks of a lower strip, the first of a word, and the kind laid by the pattern of an index
