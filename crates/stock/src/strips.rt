@@ -28,7 +28,7 @@ fn stranger_place(stock: &[u16], strip: &[u8]) -> u64
     0
 }
 
-// How many blocks of a strip are of each kind, in one pass.
+// How many blocks of a strip are of each kind, in one pass. Kinds are numbered from 1: entry 0 counts the bytes 0.
 fn tallies(strip: &[u8]) -> [usize; 17]
     requires { ⌜ ((i : ℕ) → i < length (now strip) → getD (now strip) i 0 ≤ 16) ⌝ }
     ensures { λ r. ⌜ ((j : ℕ) → j < 17 → getD r j 0 ≡ count j (now (strip .entry))) ⌝ }

@@ -1,5 +1,5 @@
 -- `stock::strips::check_strip_only` meets its contract: row by row of the table.
-use mathlib.Core.Path.{_≡_, sym, ap, _∙_}
+use mathlib.Core.Path.{_≡_, ap}
 use native.Mathlib.Omega.{arith}
 use borrow.Author.Needs.{needs}
 use lib.ListN.{length}
