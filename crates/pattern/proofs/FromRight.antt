@@ -22,6 +22,7 @@ pub record FromRight (kind : ℕ) (word₀ : List ℕ) (others index : ℕ) (wor
   pub room : length word ≡ length word₀
   pub left : a ≤ length word₀
   pub fewer : b ≤ a
+  pub some : b ≤ others
   pub within : i < binom a b
   pub kept : take a word ≡ take a word₀
   pub laid : lay kind (take b word₀) (reverse (unrank turned a b i)) ++ drop a word ≡ laidAt kind word₀ others index
@@ -37,6 +38,7 @@ start kind word others index h l =
       room = refl;
       left = omega arith;
       fewer = h;
+      some = omega arith;
       within = l;
       kept = refl;
       laid = rw (drop-of-length-le word {i = length word} (omega arith), append-nil, e);
@@ -59,6 +61,7 @@ module _ {kind : ℕ} {word₀ : List ℕ} {others index : ℕ} {word : List ℕ
             room = length-set word a kind ∙ s .room;
             left = omega (arith, s .left);
             fewer = h;
+            some = s .some;
             within = m;
             kept = stays kind;
             laid = rw (drop-set word a kind (omega (arith, s .left, s .room))) f;
@@ -83,6 +86,7 @@ module _ {kind : ℕ} {word₀ : List ℕ} {others index : ℕ} {word : List ℕ
           room = length-set word a (getD word b 0) ∙ s .room;
           left = omega (arith, s .left);
           fewer = omega (arith, s .fewer);
+          some = omega (arith, s .some);
           within = m;
           kept = stays s (getD word b 0);
           laid = rw (drop-set word a (getD word b 0) (omega (arith, s .left, s .room)), ← x) f;
@@ -101,10 +105,10 @@ module _ {kind : ℕ} {word₀ : List ℕ} {others index : ℕ} {word : List ℕ
       pub block-left : n ≤ i → 0 < b
       block-left l = some-R (rw e at s) (rw is at l)
 
-      pub on-R : n ≤ i → FromRight kind word₀ others index (set word (a - 1) (getD word (b - 1) 0)) (a - 1) (b - 1) (i - n) (not turned)
-      on-R l =
-          let f : b ≡ suc (b - 1) = omega (arith, block-left l) in
-          let g : n ≡ binom (a - 1) (suc (b - 1)) = rw f at is in
+      pub on-R : n ≤ i → {from : ℕ} → from ≡ b - 1 → FromRight kind word₀ others index (set word (a - 1) (getD word from 0)) (a - 1) from (i - n) (not turned)
+      on-R l {from} k =
+          let f : b ≡ suc from = omega (arith, block-left l) in
+          let g : n ≡ binom (a - 1) (suc from) = rw f at is in
           rw g (laid-R (rw (e, f) at s) (rw g at l))
 
     -- where all letters that are left are R, their blocks stand there already

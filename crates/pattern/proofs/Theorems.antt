@@ -102,8 +102,8 @@ module _ (d : Bool) (kind : ℕ) (word : List ℕ) where
   move-right r e = right (moveE d (pattern kind word)) r e (E-move a b (pattern kind word) is-word d)
 
 -- any answer that the contracts allow
-pub next-right : (κs : Lfts 1) (a : Dens κs next.ps) (r : Step) (s : AtExit (endedOf 1 next.ps next.r) κs) → next-reads.Post κs a r s → Right false (a .1 .0) (a .0 .now) r
-next-right κs a r s h = move-right false (a .1 .0) (a .0 .now) r h
+pub next-right : (κs : Lfts 1) (args : Dens κs next.ps) (r : Step) (s : AtExit (endedOf 1 next.ps next.r) κs) → next-reads.Post κs args r s → Right false (args .1 .0) (args .0 .now) r
+next-right κs args r s h = move-right false (args .1 .0) (args .0 .now) r h
 
-pub prev-right : (κs : Lfts 1) (a : Dens κs prev.ps) (r : Step) (s : AtExit (endedOf 1 prev.ps prev.r) κs) → prev-reads.Post κs a r s → Right true (a .1 .0) (a .0 .now) r
-prev-right κs a r s h = move-right true (a .1 .0) (a .0 .now) r h
+pub prev-right : (κs : Lfts 1) (args : Dens κs prev.ps) (r : Step) (s : AtExit (endedOf 1 prev.ps prev.r) κs) → prev-reads.Post κs args r s → Right true (args .1 .0) (args .0 .now) r
+prev-right κs args r s h = move-right true (args .1 .0) (args .0 .now) r h

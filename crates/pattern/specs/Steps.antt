@@ -14,5 +14,5 @@ pickStep true s t = s
 pickStep false s t = t
 
 -- a step that was found, or else the one that exchanges these places
-abbrev pub orPlaces : Step → ℕ → ℕ → Step
+unfoldable pub orPlaces : Step → ℕ → ℕ → Step
 orPlaces s low high = pickStep (s .found) s (step (some (low, high)))

@@ -39,9 +39,10 @@ pub fn lay_at(rows: &[u64; 2145], word: &mut [u8], others: usize, kind: u8, inde
             i = faced(turned, in_k, i);
             turned = false;
         } else {
-            b -= 1;
-            let block = word[b];
+            let from = b - 1;
+            let block = word[from];
             word[a] = block;
+            b = from;
             i -= in_k;
             turned = !turned;
         }

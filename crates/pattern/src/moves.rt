@@ -88,6 +88,7 @@ pub fn prev(word: &[u8], kind: u8, others: usize) -> Step
         let inner = next(&word[..before], kind, rest);
         return or_else(inner, before, last);
     }
-    let inner = prev(&word[..before], kind, rest - 1);
-    or_else(inner, rest - 1, before)
+    let fewer = rest - 1;
+    let inner = prev(&word[..before], kind, fewer);
+    or_else(inner, fewer, before)
 }

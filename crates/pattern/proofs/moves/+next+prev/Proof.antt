@@ -61,7 +61,7 @@ pub +next+prev-spec : {M : Type 1} → statement M
     (λ c. simp length-take (omega arith))
     (λ c κs. (simp length-take (omega arith), (simp length-take (omega arith), rest-K (next-both t (c .before .before .before)) (omega arith))))
     (λ c κs. tt)
-    (λ c. c .or-else .ensures ∙ next-K (next-both t (c .before .before .before .before .before)) (omega arith) (c .before .next .ensures))
+    (λ c. c .or-else .ensures ∙ next-K (next-both t (c .before .before .before .before .before)) (omega arith) (omega arith) (omega arith) (c .before .next .ensures))
     (λ c. omega arith)
     (λ c. omega arith)
     (λ c. next-KR-none (next-both t (c .before .before .before .before .before)) (omega arith) (omega arith) (omega arith))
@@ -72,7 +72,7 @@ pub +next+prev-spec : {M : Type 1} → statement M
     ))
     (λ c. omega arith)
     (λ c κs. tt)
-    (λ c. c .or-else2 .ensures ∙ next-KR (next-both t (c .before .before .before .before .before .before .before .before)) (omega arith) (omega arith) (omega arith) (c .before .prev .ensures))
+    (λ c. c .or-else2 .ensures ∙ next-KR (next-both t (c .before .before .before .before .before .before .before .before)) (omega arith) (omega arith) (omega arith) (omega arith) (omega arith) (c .before .prev .ensures))
     (λ c. simp length-take (omega arith))
     (λ c. more-RR (next-both t (c .before .before .before .before .before)) (omega arith) (omega arith))
     (λ c κs. (
@@ -97,13 +97,12 @@ pub +next+prev-spec : {M : Type 1} → statement M
       (simp length-take (omega arith), rest-KR (prev-both t (c .before .before .before .before .before)) (omega arith) (omega arith)),
     ))
     (λ c κs. tt)
-    (λ c. c .or-else .ensures ∙ prev-KR (prev-both t (c .before .before .before .before .before .before .before)) (omega arith) (omega arith) (c .before .next .ensures))
+    (λ c. c .or-else .ensures ∙ prev-KR (prev-both t (c .before .before .before .before .before .before .before)) (omega arith) (omega arith) (omega arith) (omega arith) (c .before .next .ensures))
+    (λ c. more-RR (prev-both t (c .before .before .before .before)) (omega arith) (omega arith))
     (λ c. simp length-take (omega arith))
-    (λ c. more-RR (prev-both t (c .before .before .before .before .before)) (omega arith) (omega arith))
     (λ c κs. (
       simp length-take (omega arith),
       (simp length-take (omega arith), rest-RR (prev-both t (c .before .before .before .before .before)) (omega arith) (omega arith)),
     ))
-    (λ c. more-RR (prev-both t (c .before .before .before .before .before .before)) (omega arith) (omega arith))
     (λ c κs. tt)
-    (λ c. c .or-else2 .ensures ∙ prev-RR (prev-both t (c .before .before .before .before .before .before .before)) (omega arith) (omega arith) (c .before .prev2 .ensures))
+    (λ c. c .or-else2 .ensures ∙ prev-RR (prev-both t (c .before .before .before .before .before .before .before)) (omega arith) (omega arith) (omega arith) (omega arith) (c .before .prev2 .ensures))
