@@ -1,28 +1,28 @@
 -- Proofs. A pattern laid in place from the right end of the word to the left: the last places are laid, and a places and b blocks are left.
-use Prim.Native.Nat.{ℕ, zero, suc, pred, _+_, _-_, _≤_, _<_}
+use Prim.Native.Nat.{ℕ, zero, suc, _+_, _-_, _≤_, _<_}
 use mathlib.Core.Path.{_≡_, refl, sym, ap, _∙_}
-use mathlib.Core.Bool.{Bool, true, false, not}
+use mathlib.Core.Bool.{Bool, false, not}
 use mathlib.Core.List.{List, [], _∷_, _++_, reverse, append-assoc, append-nil}
 use native.Mathlib.Omega.{arith}
 use lib.ListN.{length, getD, take, drop, set, length-set, length-reverse, take-append-drop, drop-of-length-le}
 use lib.Seq.{take-suc, take-take, take-set-le, drop-cons, drop-set-lt, getD-set-same, getD-take, length-take-le}
 use Rattle.rules.specs.Stock.{binom}
-use Rattle.rules.specs.Book.{Word, E, lay}
+use Rattle.rules.specs.Book.{E, lay}
 use Rattle.rules.proofs.Listed.{face, face-lt}
 use Rattle.rules.proofs.Turned.{binom-zero}
 use Rattle.rules.proofs.Patterns.{countR, countR-reverse, binom-suc, E-at, unrank, unrank-is}
 use Rattle.rules.proofs.Laying.{unrank-K, unrank-R, lay-K, lay-R, lay-all-R}
 
--- the blocks of a lower strip, the first of a word, and the kind laid by the pattern of an index
+-- the kind, and the strip that stands first in a word, laid by the pattern of an index
 abbrev pub laidAt : ℕ → List ℕ → ℕ → ℕ → List ℕ
 laidAt kind word others index = lay kind (take others word) (getD (E (length word) others) index [])
 
--- a and b as above; the letters that are left are those of `unrank`
+-- what is left is as it was, and by the letters that `unrank` finds it makes up the whole with what is laid
 pub record FromRight (kind : ℕ) (word₀ : List ℕ) (others index : ℕ) (word : List ℕ) (a b i : ℕ) (turned : Bool) : Type 0 where
   pub room : length word ≡ length word₀
   pub left : a ≤ length word₀
   pub fewer : b ≤ a
-  pub some : b ≤ others
+  pub blocks : b ≤ others
   pub within : i < binom a b
   pub kept : take a word ≡ take a word₀
   pub laid : lay kind (take b word₀) (reverse (unrank turned a b i)) ++ drop a word ≡ laidAt kind word₀ others index
@@ -38,7 +38,7 @@ start kind word others index h l =
       room = refl;
       left = omega arith;
       fewer = h;
-      some = omega arith;
+      blocks = omega arith;
       within = l;
       kept = refl;
       laid = rw (drop-of-length-le word {i = length word} (omega arith), append-nil, e);
@@ -61,7 +61,7 @@ module _ {kind : ℕ} {word₀ : List ℕ} {others index : ℕ} {word : List ℕ
             room = length-set word a kind ∙ s .room;
             left = omega (arith, s .left);
             fewer = h;
-            some = s .some;
+            blocks = s .blocks;
             within = m;
             kept = stays kind;
             laid = rw (drop-set word a kind (omega (arith, s .left, s .room))) f;
@@ -86,7 +86,7 @@ module _ {kind : ℕ} {word₀ : List ℕ} {others index : ℕ} {word : List ℕ
           room = length-set word a (getD word b 0) ∙ s .room;
           left = omega (arith, s .left);
           fewer = omega (arith, s .fewer);
-          some = omega (arith, s .some);
+          blocks = omega (arith, s .blocks);
           within = m;
           kept = stays s (getD word b 0);
           laid = rw (drop-set word a (getD word b 0) (omega (arith, s .left, s .room)), ← x) f;

@@ -1,6 +1,6 @@
 -- Theorems on `next` and `prev`, over their contracts as the functions state them: `Post` says which answers they allow for which word.
-use Prim.Native.Nat.{ℕ, zero, suc, _<_}
-use mathlib.Core.Path.{_≡_, refl, sym, ap, _∙_}
+use Prim.Native.Nat.{ℕ}
+use mathlib.Core.Path.{_≡_, refl, _∙_}
 use mathlib.Core.Bool.{Bool, true, false}
 use mathlib.Core.Option.{Option, none, some}
 use mathlib.Core.List.{List, []}
@@ -9,10 +9,8 @@ use lib.ListN.{length, getD}
 use contract.Lifetimes.{Lfts}
 use borrow.Fn.Kinds.{Dens, endedOf}
 use denote.Triple.Clauses.{AtExit}
-use Rattle.rules.specs.Stock.{binom}
 use Rattle.rules.specs.Book.{Word, E, lay}
-use Rattle.rules.proofs.Listed.{Listed}
-use Rattle.rules.proofs.Patterns.{IsWord, rankE, listed-E}
+use Rattle.rules.proofs.Patterns.{IsWord, listed-E}
 use Rattle.rules.proofs.Exchange.{Exchanged, exchanged}
 use Rattle.rules.proofs.Moves.{moveE, Onward, Final, NextWord, ResultE, E-move}
 use Rattle.rules.proofs.Books.{pattern, without, lay-back, pattern-lay, without-lay, without-free, free-at, countR-pattern, length-pattern}

@@ -9,6 +9,8 @@ abbrev pub step : Option (ℕ × ℕ) → Step
 step none = record { found = false; low = 0; high = 0 }
 step (some pq) = record { found = true; low = pq .0; high = pq .1 }
 
+-- ---- of a part of their code: nobody needs to believe it
+
 abbrev pub pickStep : Bool → Step → Step → Step
 pickStep true s t = s
 pickStep false s t = t

@@ -21,8 +21,8 @@ fn faced(turned: bool, n: u64, i: u64) -> u64
 }
 
 // The first `others` blocks of the lent word are a lower strip. Lays the kind and that strip by the pattern of the index in E(a, others), a the
-// word's length. The letters are found from the last to the first, one binomial each, and no block is read that was written: `b` blocks of the
-// strip stand before the `a` places that are left, until all of these are R and hold their blocks already.
+// word's length. The letters are found from the last to the first, one binomial each; a places and b blocks of the strip are left. A block is
+// never read right of the place that is written, so one word serves for both. Where only R is left, the blocks stand in their places already.
 pub fn lay_at(rows: &[u64; 2145], word: &mut [u8], others: usize, kind: u8, index: u64)
     requires { ⌜ (now rows ≡ triangle) × (length (now word) ≤ 64) × (others ≤ length (now word)) × (index < binom (length (now word)) others) ⌝ }
     ensures { λ _. ⌜ now (word .exit) ≡ lay kind (take others (now (word .entry))) (getD (E (length (now (word .entry))) others) index []) ⌝ }

@@ -1,6 +1,6 @@
 -- Proofs. Moving on and back from a word of blocks, by the blocks at its end: K, K R or R R. Each law serves both directions, in the terms of code
 -- that knows the number b of letters R.
-use Prim.Native.Nat.{ℕ, zero, suc, pred, _+_, _-_, _≤_, _<_}
+use Prim.Native.Nat.{ℕ, zero, suc, pred, _-_, _≤_, _<_}
 use mathlib.Core.Path.{_≡_, refl, sym, ap, _∙_}
 use mathlib.Core.Bool.{Bool, true, false, not}
 use mathlib.Core.Option.{Option, none, some}
@@ -16,21 +16,21 @@ use Rattle.rules.proofs.Patterns.{countR, IsWord, listed-E, binom-self}
 use Rattle.rules.proofs.Moves.{countK, gate, orElse, orElse-none, move, moveE, ResultE, E-move, count-both, on-K, back-K, on-KR, back-KR, on-RR, back-RR}
 use Rattle.rules.proofs.Books.{pattern, length-pattern}
 use Rattle.rules.proofs.Last.{rev-one, rev-two}
-use Rattle.rules.proofs.Index.{rests, rests-K, rests-turned, pattern-reverse, length-turned, InKR, in-KR, InRR, in-RR}
+use Rattle.rules.proofs.Index.{rests, rests-K, rests-turned, pattern-reverse, length-turned, in-KR, in-RR}
 
--- ---- where one part of the rule's list meets the next, of a letters with b letters R: the places to exchange there
+-- ---- the places to exchange where one part of the rule's list meets the part beside it, in words of a letters with b letters R
 
--- at the end of the words that end in K: the first that ends in K R follows
-abbrev pub seamOfK : Bool → ℕ → ℕ → Option (ℕ × ℕ)
-seamOfK false a b = some (a - 2, a - 1)
-seamOfK true a b = none
+-- after the words that end in K comes the first that ends in K R
+abbrev pub seamOfK : Bool → ℕ → Option (ℕ × ℕ)
+seamOfK false a = some (a - 2, a - 1)
+seamOfK true a = none
 
--- at the end of those that end in K R: the first that ends in R R follows, if there is one; the last that ends in K goes before
+-- after those that end in K R comes the first that ends in R R, if there is one; before them stands the last that ends in K
 abbrev pub seamOfKR : Bool → ℕ → ℕ → Option (ℕ × ℕ)
 seamOfKR false a b = gate (b - 1) (b - 1 - 1, a - 2)
 seamOfKR true a b = some (a - 2, a - 1)
 
--- at the end of those that end in R R: the last that ends in K R goes before
+-- before those that end in R R stands the last that ends in K R
 abbrev pub seamOfRR : Bool → ℕ → ℕ → Option (ℕ × ℕ)
 seamOfRR false a b = none
 seamOfRR true a b = some (b - 1 - 1, a - 2)
@@ -90,13 +90,13 @@ module _ {j : ℕ} {w : List ℕ} {b : ℕ} (h : Both j w b) where
     letters-K : length p ≡ length w - 1
     letters-K = length-turned j v ∙ length-take-le (length w - 1) w (omega arith)
 
-    last-K : (d : Bool) → move d false (K ∷ p) ≡ orElse (move d false p) (seamOfK d (length w) b)
+    last-K : (d : Bool) → move d false (K ∷ p) ≡ orElse (move d false p) (seamOfK d (length w))
     last-K false =
         let e : pred (length w - 1) ≡ length w - 2 = omega arith in
         on-K p ∙ rw (others-K, letters-K, gate-open b (pred (length w - 1), length w - 1) (h .some-R), e)
     last-K true = back-K p ∙ sym (orElse-none (move true false p))
 
-    pub move-K : (d : Bool) → moveE d (pattern j w) ≡ orElse (moveE d (pattern j v)) (seamOfK d (length w) b)
+    pub move-K : (d : Bool) → moveE d (pattern j w) ≡ orElse (moveE d (pattern j v)) (seamOfK d (length w))
     unfolding pattern
     move-K d = rw (turned j w d, turned j v d, rev-one w (omega arith), eq-eqb _ j k) (last-K d)
 

@@ -10,7 +10,7 @@ use Rattle.rules.specs.Stock.{binom}
 use Rattle.rules.specs.Book.{K, R, Word, lay}
 use Rattle.rules.proofs.Listed.{face}
 use Rattle.rules.proofs.Patterns.{countR, countR-reverse, unrank}
-use Rattle.rules.proofs.Moves.{countK, count-both}
+use Rattle.rules.proofs.Moves.{count-both}
 use Rattle.rules.proofs.Walk.{lay-append}
 
 -- the letter that `unrank` finds, and what it goes on with

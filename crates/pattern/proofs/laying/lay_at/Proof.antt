@@ -1,6 +1,5 @@
 -- `pattern::laying::lay_at` meets its contract. The measure is the number of places that are left.
 use native.Mathlib.Omega.{arith}
-use lib.ListN.{length-set}
 use Rattle.pattern.proofs.FromRight.{FromRight, start, on-K, block-left, on-R, all-laid}
 use Rattle.pattern.proofs.laying.lay_at.Statement.{statement}
 use Rattle.pattern.proofs.laying.lay_at.Tie as tie
