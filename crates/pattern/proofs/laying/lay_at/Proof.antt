@@ -24,7 +24,7 @@ lay-at-spec =
     (λ c. omega arith)
     (λ c. on-K (c .before .before .before .before .loop .inv) (omega arith) _ (c .before .before .choose .ensures) (omega arith) (c .faced .ensures))
     (λ c. omega (arith, block-left (c .before .before .before .loop .inv) (omega arith) _ (c .before .choose .ensures) (omega arith)))
-    (λ c. omega arith)
+    (λ c. omega (arith, block-left (c .before .before .before .before .loop .inv) (omega arith) _ (c .before .before .choose .ensures) (omega arith)))
     (λ c. omega arith)
     (λ c. omega arith)
     (λ c. on-R (c .before .before .before .before .loop .inv) (omega arith) _ (c .before .before .choose .ensures) (omega arith) (omega arith))
