@@ -1,5 +1,6 @@
 // The number of a strip, kind after kind.
 use choose::choose;
+use pattern::faced;
 use pattern::index_of;
 use pattern::reduce;
 ghost use Prim.Native.Nat.{_+_, _*_, _^_, _≤_, _<_};
@@ -14,10 +15,7 @@ fn numbered_by(patterns: u64, number: u64, index: u64) -> u64
     requires { ⌜ (index < patterns) × (number * patterns + patterns ≤ 2 ^ 64) ⌝ }
     ensures { λ r. ⌜ r ≡ numbered patterns number index ⌝ }
 {
-    if number % 2 == 0 {
-        return number * patterns + index;
-    }
-    number * patterns + (patterns - 1 - index)
+    number * patterns + faced(number % 2 == 1, patterns, index)
 }
 
 // The number of a strip whose stock can be numbered, one kind more at a time.

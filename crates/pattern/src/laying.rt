@@ -10,7 +10,7 @@ ghost use Rattle.rules.proofs.Listed.{face};
 ghost use Rattle.choose.specs.Triangle.{triangle};
 
 // Place i of n, counted from the back where turned.
-fn faced(turned: bool, n: u64, i: u64) -> u64
+pub fn faced(turned: bool, n: u64, i: u64) -> u64
     requires { ⌜ i < n ⌝ }
     ensures { λ r. ⌜ r ≡ face turned n i ⌝ }
 {

@@ -4,7 +4,8 @@ use mathlib.Core.Path.{sym, _∙_}
 use native.Mathlib.Omega.{arith}
 use lib.ListN.{length}
 use borrow.Author.Needs.{needs}
-use Rattle.numbering.proofs.Runs.{Running, start, within, on, end}
+use Rattle.numbering.proofs.Runs.{Running, start, on, end}
+use Rattle.numbering.proofs.Rising.{within}
 use Rattle.numbering.proofs.first.lay_runs.Statement.{statement}
 use Rattle.numbering.proofs.first.lay_runs.Tie as tie
 

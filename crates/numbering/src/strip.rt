@@ -1,0 +1,29 @@
+// Strip: the strip of a number in the book of a stock.
+use crate::strips::strip_of;
+use crate::totals::total_of;
+use choose::table;
+use stock::Refusal;
+use stock::check_buffer;
+ghost use mathlib.Core.Path.{_≡_};
+ghost use Rattle.numbering.specs.Answers.{stripAnswer, stripAfter};
+
+// Writes the strip of a number into a buffer of n bytes.
+pub fn strip(stock: &[u16], number: u64, buffer: &mut [u8]) -> Refusal
+    ensures { λ r. ⌜ (r ≡ stripAnswer (now (stock .entry)) number (now (buffer .entry))) × (now (buffer .exit) ≡ stripAfter (now (stock .entry)) number (now (buffer .entry))) ⌝ }
+{
+    let checked = check_buffer(stock, buffer);
+    let no = checked.no;
+    if no != 0 {
+        return checked;
+    }
+    let rows = table();
+    let strips = total_of(&rows, stock);
+    if strips == 0 {
+        return Refusal { no: 7, place: 0 };
+    }
+    if strips <= number {
+        return Refusal { no: 8, place: 0 };
+    }
+    strip_of(&rows, stock, number, buffer);
+    Refusal { no: 0, place: 0 }
+}
