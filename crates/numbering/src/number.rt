@@ -1,7 +1,7 @@
 // Number: the strip's place in the book of its stock.
 use crate::numbers::number_of;
-use crate::totals::total_of;
 use choose::table;
+use counting::total_of;
 use stock::Refusal;
 use stock::check_strip;
 ghost use mathlib.Core.Path.{_≡_};

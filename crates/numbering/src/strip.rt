@@ -1,7 +1,7 @@
 // Strip: the strip of a number in the book of a stock.
 use crate::strips::strip_of;
-use crate::totals::total_of;
 use choose::table;
+use counting::total_of;
 use stock::Refusal;
 use stock::check_buffer;
 ghost use mathlib.Core.Path.{_≡_};

@@ -7,8 +7,8 @@ use lib.ListN.{getD}
 use borrow.Author.Needs.{needs}
 use Rattle.rules.specs.Stock.{total}
 use Rattle.rules.specs.Book.{book}
-use Rattle.rules.specs.Refusals.{fine, firstOf, answer, bufferNos, manyNo, aboveNo}
-use Rattle.rules.proofs.Refusals.{answer-refused, answer-next, answer-row, answer-last, many-refused, many-passed, many-no, above-refused, above-passed}
+use Rattle.rules.specs.Refusals.{fine, firstOf, answer, bufferNos, aboveNo}
+use Rattle.rules.proofs.Refusals.{answer-refused, answer-next, answer-past, answer-row, answer-last, many-refused, many-passed, many-no, above-refused, above-passed}
 use Rattle.rules.proofs.Checks.{accepted-buffer}
 use Rattle.rules.proofs.Prefixes.{zero-many, some-few}
 use Rattle.stock.specs.declared.Refusal.{Refusal}
@@ -68,8 +68,8 @@ module _ (c : tie.Else2) where
   strips-are = c .before .total-of .ensures ∙ many-no (counts b) few
 
   last-row : answer asWritten (aboveNo (counts b) (number b) ∷ []) (buffer b) (found b) ≡ answer asWritten (byNumberNos (counts b) (number b) (buffer b)) (buffer b) (found b)
-  unfolding byNumberNos firstOf
-  last-row = answer-next asWritten (buffer b) (found b) (manyNo (counts b) ∷ []) (aboveNo (counts b) (number b) ∷ []) (rw (many-passed (counts b) few))
+  unfolding byNumberNos
+  last-row = answer-past asWritten (buffer b) (found b) _ (aboveNo (counts b) (number b) ∷ []) (many-passed (counts b) few)
       ∙ answer-next asWritten (buffer b) (found b) (bufferNos (counts b) (buffer b)) _ (none-yet b)
 
 returns-3 : tie.Need-returns-3

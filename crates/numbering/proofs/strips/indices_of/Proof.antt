@@ -4,7 +4,6 @@ use mathlib.Core.List.{[]}
 use native.Mathlib.Nat.{mod-lt}
 use native.Mathlib.Omega.{arith}
 use lib.ListN.{getD}
-use borrow.Author.Needs.{needs}
 use Rattle.rules.specs.Book.{book}
 use Rattle.numbering.proofs.Indices.{Descending, start, fewer, short, some, on, end}
 use Rattle.numbering.proofs.strips.indices_of.Statement.{statement}

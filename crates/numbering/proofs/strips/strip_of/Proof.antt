@@ -1,14 +1,12 @@
 -- `numbering::strips::strip_of` meets its contract.
-use Prim.Native.Nat.{ℕ, suc, _-_, _<_}
-use mathlib.Core.Path.{_≡_, sym, _∙_}
+use Prim.Native.Nat.{_-_}
+use mathlib.Core.Path.{sym, _∙_}
 use native.Mathlib.Omega.{arith}
 use lib.ListN.{length}
 use lib.Seq.{length-take-le}
 use borrow.Author.Needs.{needs}
-use Rattle.rules.specs.Book.{reduced}
-use Rattle.rules.proofs.Index.{index}
-use Rattle.numbering.proofs.Rising as rising
-use Rattle.numbering.proofs.Layers.{stripAt, Layered, start, within, on, end}
+use Rattle.rules.proofs.Rising as rising
+use Rattle.numbering.proofs.Layers.{Layered, start, within, on, end}
 use Rattle.numbering.proofs.strips.strip_of.Statement.{statement}
 use Rattle.numbering.proofs.strips.strip_of.Tie as tie
 

@@ -10,7 +10,7 @@ use Rattle.rules.specs.Stock.{sum}
 use Rattle.rules.specs.Book.{book}
 use Rattle.rules.proofs.Numbers.{runs, runs-snoc}
 use Rattle.rules.proofs.Neighbours.{first-strip}
-use Rattle.numbering.proofs.Rising as rising
+use Rattle.rules.proofs.Rising as rising
 
 -- the runs of the first j kinds
 abbrev pub runsTo : List ℕ → ℕ → List ℕ

@@ -4,7 +4,7 @@ use choose::table;
 use stock::Refusal;
 use stock::check_stock;
 ghost use mathlib.Core.Path.{_≡_};
-ghost use Rattle.numbering.specs.Answers.{countAnswer};
+ghost use Rattle.counting.specs.Answers.{countAnswer};
 
 // What Count answers.
 #[repr(C)]

@@ -1,12 +1,12 @@
--- `numbering::first::fill` meets its contract. The invariant: i places hold the kind, and the others what they held.
+-- `counting::first::fill` meets its contract. The invariant: i places hold the kind, and the others what they held.
 use Prim.Native.Nat.{_≤_, _-_}
-use mathlib.Core.Path.{_≡_, refl, ap, _∙_}
-use mathlib.Core.List.{List, _++_, append-nil}
+use mathlib.Core.Path.{_≡_, refl, _∙_}
+use mathlib.Core.List.{_++_, append-nil}
 use native.Mathlib.Omega.{arith}
-use lib.ListN.{length, set, drop, replicate, length-set, drop-of-length-le}
+use lib.ListN.{length, drop, replicate, length-set, drop-of-length-le}
 use borrow.Author.Fill.{fill-more}
-use Rattle.numbering.proofs.first.fill.Statement.{statement}
-use Rattle.numbering.proofs.first.fill.Tie as tie
+use Rattle.counting.proofs.first.fill.Statement.{statement}
+use Rattle.counting.proofs.first.fill.Tie as tie
 
 abbrev Inv-loop : tie.InvT-loop
 Inv-loop part₀ kind i₀ part i = (i ≤ length part₀) × (length part ≡ length part₀) × (part ≡ replicate i kind ++ drop i part₀)

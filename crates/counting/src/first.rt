@@ -6,7 +6,7 @@ ghost use mathlib.Core.List.{[]};
 ghost use lib.ListN.{length, getD, replicate};
 ghost use Rattle.rules.specs.Stock.{sum, IsStock};
 ghost use Rattle.rules.specs.Book.{book};
-ghost use Rattle.numbering.specs.Answers.{firstAnswer, firstAfter};
+ghost use Rattle.counting.specs.Answers.{firstAnswer, firstAfter};
 
 // One kind on every place of a part of a strip.
 fn fill(part: &mut [u8], kind: u8)

@@ -1,13 +1,13 @@
--- `numbering::first::lay_runs` meets its contract.
+-- `counting::first::lay_runs` meets its contract.
 use Prim.Native.Nat.{_-_}
 use mathlib.Core.Path.{sym, _∙_}
 use native.Mathlib.Omega.{arith}
 use lib.ListN.{length}
 use borrow.Author.Needs.{needs}
-use Rattle.numbering.proofs.Runs.{Running, start, on, end}
-use Rattle.numbering.proofs.Rising.{within}
-use Rattle.numbering.proofs.first.lay_runs.Statement.{statement}
-use Rattle.numbering.proofs.first.lay_runs.Tie as tie
+use Rattle.counting.proofs.Runs.{Running, start, on, end}
+use Rattle.rules.proofs.Rising.{within}
+use Rattle.counting.proofs.first.lay_runs.Statement.{statement}
+use Rattle.counting.proofs.first.lay_runs.Tie as tie
 
 abbrev Inv-loop : tie.InvT-loop
 Inv-loop stock strip₀ from₀ j₀ strip from j = Running stock strip from j

@@ -1,5 +1,5 @@
--- `numbering::count::count` meets its contract: the checks in the order of its refusals, then T.
-use Prim.Native.Nat.{ℕ, _^_, _<_}
+-- `counting::count::count` meets its contract: the checks in the order of its refusals, then T.
+use Prim.Native.Nat.{ℕ}
 use mathlib.Core.Path.{_≡_, ap, _∙_}
 use mathlib.Core.List.{List, []}
 use native.Mathlib.Omega.{arith}
@@ -11,9 +11,9 @@ use Rattle.rules.proofs.Checks.{accepted}
 use Rattle.rules.proofs.Prefixes.{zero-many, some-few}
 use Rattle.stock.specs.declared.Refusal.{Refusal}
 use Rattle.stock.proofs.Tested.{passed, stopped}
-use Rattle.numbering.specs.Answers.{countNos, countAnswer, asCounted}
-use Rattle.numbering.proofs.count.count.Statement.{statement}
-use Rattle.numbering.proofs.count.count.Tie as tie
+use Rattle.counting.specs.Answers.{countNos, countAnswer, asCounted}
+use Rattle.counting.proofs.count.count.Statement.{statement}
+use Rattle.counting.proofs.count.count.Tie as tie
 
 -- 1, 2, 3 refuse
 returns : tie.Need-returns

@@ -1,4 +1,4 @@
--- `numbering::first::first` meets its contract: the checks in the order of its refusals, then strip 0.
+-- `counting::first::first` meets its contract: the checks in the order of its refusals, then strip 0.
 use mathlib.Core.Path.{sym, _∙_}
 use native.Mathlib.Omega.{arith}
 use borrow.Author.Needs.{needs}
@@ -6,9 +6,9 @@ use Rattle.rules.specs.Refusals.{firstOf, bufferNos}
 use Rattle.rules.proofs.Refusals.{unless-refused, unless-passed}
 use Rattle.rules.proofs.Checks.{accepted-buffer}
 use Rattle.stock.proofs.Tested.{passed, stopped}
-use Rattle.numbering.specs.Answers.{firstAnswer, firstAfter}
-use Rattle.numbering.proofs.first.first.Statement.{statement}
-use Rattle.numbering.proofs.first.first.Tie as tie
+use Rattle.counting.specs.Answers.{firstAnswer, firstAfter}
+use Rattle.counting.proofs.first.first.Statement.{statement}
+use Rattle.counting.proofs.first.first.Tie as tie
 
 -- 1 to 4 refuse
 returns : tie.Need-returns
