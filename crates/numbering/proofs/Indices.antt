@@ -17,7 +17,7 @@ use Rattle.rules.proofs.Turned.{sum-next}
 use Rattle.rules.proofs.Reduced.{prefix-all}
 use Rattle.rules.proofs.Prefixes.{sum-take, binom-some}
 use Rattle.rules.proofs.Numbers.{odd-rest}
-use Rattle.rules.proofs.Descent.{number-below, index-from}
+use Rattle.rules.proofs.TakenApart.{number-below, index-from}
 
 pub record Descending (counts s indices : List ℕ) (letters left j : ℕ) : Type 0 where
   pub own : IsStrip counts s

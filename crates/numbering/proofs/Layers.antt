@@ -12,7 +12,7 @@ use Rattle.rules.proofs.Index.{index}
 use Rattle.rules.proofs.Strips.{to-strip}
 use Rattle.rules.proofs.Reduced.{prefix-strip, prefix-all}
 use Rattle.rules.proofs.Places.{book-only}
-use Rattle.rules.proofs.Descent.{index-within, reduced-laid}
+use Rattle.rules.proofs.TakenApart.{index-within, reduced-laid}
 use Rattle.rules.proofs.Rising as rising
 
 abbrev pub stripAt : List ℕ → ℕ → List ℕ
