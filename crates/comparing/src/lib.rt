@@ -1,0 +1,2 @@
+// Comparing two strips of one stock: the calls Which, Earlier and Distance, one file for each.
+mod order;
