@@ -1,0 +1,31 @@
+-- `comparing::which::which` meets its contract: the checks of both strips, then the order.
+use mathlib.Core.Path.{ap, _∙_}
+use native.Mathlib.Omega.{arith}
+use borrow.Author.Needs.{needs}
+use Rattle.rules.specs.Refusals.{fine, pairNos}
+use Rattle.rules.proofs.Refusals.{answer-stopped, answer-passed}
+use Rattle.rules.proofs.Checks.{accepted-pair}
+use Rattle.stock.specs.declared.Refusal.{Refusal}
+use Rattle.stock.proofs.Tested.{passed, stopped}
+use Rattle.comparing.specs.Answers.{whichAnswer, asCompared}
+use Rattle.comparing.proofs.which.which.Statement.{statement}
+use Rattle.comparing.proofs.which.which.Tie as tie
+
+returns : tie.Need-returns
+unfolding whichAnswer
+returns c =
+    let e = c .before .check-pair .ensures in
+    ap (λ (r : Refusal). record { refusal = r; which = 0 }) e ∙ answer-stopped asCompared 0 _ (pairNos _ _ _) (stopped (pairNos _ _ _) _ e (omega arith))
+
+compare-requires : tie.Need-compare-requires
+compare-requires c κs =
+    let a = accepted-pair _ _ _ (passed (pairNos _ _ _) _ (c .before .before .before .check-pair .ensures) (omega arith)) in
+    (c .before .table .ensures, a .0, a .1, a .2)
+
+returns-2 : tie.Need-returns-2
+unfolding whichAnswer
+returns-2 c =
+    ap (asCompared fine) (c .compare .ensures) ∙ answer-passed asCompared 0 _ (pairNos _ _ _) (passed (pairNos _ _ _) _ (c .before .before .before .before .check-pair .ensures) (omega arith))
+
+pub which-spec : {M : Type 1} → statement M
+which-spec = tie.close (tie.spec (λ c κs. search needs) returns (λ c κs. search needs) compare-requires returns-2)
