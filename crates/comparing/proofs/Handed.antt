@@ -1,0 +1,52 @@
+-- Proofs. The lent strip that Earlier hands back, by what Which answers: 0 is a refusal, and nothing else is.
+use Prim.Native.Nat.{ℕ, zero, suc}
+use mathlib.Core.Path.{_≡_, refl, sym, _∙_}
+use mathlib.Core.Bool.{Bool, true, false}
+use mathlib.Core.List.{List}
+use native.Mathlib.Omega.{arith}
+use borrow.Author.Tests.{eq-eqb, ne-eqb}
+use lib.Dec.{ltb}
+use Rattle.rules.specs.Book.{book, placeIn}
+use Rattle.rules.specs.Refusals.{No, pick, firstOf, unless, pairNos}
+use Rattle.comparing.specs.Order.{whichOf}
+use Rattle.comparing.specs.Answers.{Lent, EmptyPart, named, IsEarlier}
+
+-- 1, 2 or 3, and never 0
+pub which-some : (m n : ℕ) → whichOf m n ≡ 0 → ⊥
+unfolding whichOf
+which-some m n = go (ltb m n) (ltb n m)
+  where
+    go : (a b : Bool) → pick a 1 (pick b 2 3) ≡ 0 → ⊥
+    go true b h = omega arith
+    go false true h = omega arith
+    go false false h = omega arith
+
+-- a value that is never 0, or 0 where refused: it tells whether the call was refused
+module _ (A B : Type 0) (v w : ℕ) (some : v ≡ 0 → ⊥) where
+  told-refused : (p : No) → w ≡ unless p 0 v → w ≡ 0 → A → unless p A B
+  told-refused (zero, p) e h a = absurd (some (sym e ∙ h))
+  told-refused (suc n, p) e h a = a
+
+  told-passed : (p : No) → w ≡ unless p 0 v → (w ≡ 0 → ⊥) → (w ≡ v → B) → unless p A B
+  told-passed (zero, p) e h b = b e
+  told-passed (suc n, p) e h b = absurd (h e)
+
+module _ (counts : List ℕ) (first second : Lent) where
+  abbrev order : ℕ
+  order = whichOf (placeIn (book counts) (first .now)) (placeIn (book counts) (second .now))
+
+  abbrev refused : No
+  refused = firstOf (pairNos counts (first .now) (second .now))
+
+  module _ (w : ℕ) (is : w ≡ unless refused 0 order) where
+    pub handed-none : w ≡ 0 → (r : Lent) → EmptyPart first r → IsEarlier counts first second r
+    unfolding IsEarlier
+    handed-none h r e = told-refused (EmptyPart first r) (r ≡ named order first second) order w (which-some _ _) refused is h e
+
+    pub handed-second : w ≡ 2 → IsEarlier counts first second second
+    unfolding IsEarlier
+    handed-second h = told-passed (EmptyPart first second) (second ≡ named order first second) order w (which-some _ _) refused is (omega arith) (λ e. rw (eq-eqb order 2 (sym e ∙ h)) refl)
+
+    pub handed-first : (w ≡ 0 → ⊥) → (w ≡ 2 → ⊥) → IsEarlier counts first second first
+    unfolding IsEarlier
+    handed-first h k = told-passed (EmptyPart first first) (first ≡ named order first second) order w (which-some _ _) refused is h (λ e. rw (ne-eqb order 2 (λ f. k (e ∙ f))) refl)
