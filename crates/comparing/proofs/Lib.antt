@@ -2,3 +2,4 @@
 mod Ahead
 mod Level
 mod Handed
+mod Signed

@@ -1,4 +1,5 @@
 // Comparing two strips of one stock: the calls Which, Earlier and Distance, one file for each.
+pub mod distance;
 pub mod earlier;
 mod order;
 pub mod which;
