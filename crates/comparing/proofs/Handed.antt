@@ -1,25 +1,14 @@
 -- Proofs. The lent strip that Earlier hands back, by what Which answers: 0 is a refusal, and nothing else is.
 use Prim.Native.Nat.{ℕ, zero, suc}
 use mathlib.Core.Path.{_≡_, refl, sym, _∙_}
-use mathlib.Core.Bool.{Bool, true, false}
 use mathlib.Core.List.{List}
 use native.Mathlib.Omega.{arith}
 use borrow.Author.Tests.{eq-eqb, ne-eqb}
-use lib.Dec.{ltb}
 use Rattle.rules.specs.Book.{book, placeIn}
-use Rattle.rules.specs.Refusals.{No, pick, firstOf, unless, pairNos}
+use Rattle.rules.specs.Refusals.{No, firstOf, unless, pairNos}
 use Rattle.comparing.specs.Order.{whichOf}
+use Rattle.comparing.proofs.Numbers.{which-some}
 use Rattle.comparing.specs.Answers.{Lent, EmptyPart, named, IsEarlier}
-
--- 1, 2 or 3, and never 0
-pub which-some : (m n : ℕ) → whichOf m n ≡ 0 → ⊥
-unfolding whichOf
-which-some m n = go (ltb m n) (ltb n m)
-  where
-    go : (a b : Bool) → pick a 1 (pick b 2 3) ≡ 0 → ⊥
-    go true b h = omega arith
-    go false true h = omega arith
-    go false false h = omega arith
 
 -- a value that is never 0, or 0 where refused: it tells whether the call was refused
 module _ (A B : Type 0) (v w : ℕ) (some : v ≡ 0 → ⊥) where

@@ -5,7 +5,6 @@ use mathlib.Core.List.{List}
 use native.Mathlib.Nat.{mul-le-mul-right}
 use native.Mathlib.Numerals.{add-one}
 use native.Mathlib.Omega.{arith}
-use borrow.Author.Tests.{lt-ltb, le-ltb}
 use lib.ListN.{length, getD, take}
 use lib.Seq.{take-all}
 use Rattle.rules.specs.Stock.{sum, binom, IsStock, IsStrip}
@@ -20,24 +19,8 @@ use Rattle.rules.proofs.Reduced.{prefix-all}
 use Rattle.rules.proofs.Places.{place-number}
 use Rattle.choose.proofs.Largest.{binom-at-most}
 use Rattle.comparing.specs.Order.{whichOf}
+use Rattle.comparing.proofs.Numbers.{which-first, which-second, which-equal}
 use Rattle.comparing.proofs.Ahead.{parity-lt, parity-same, parity-next, ahead}
-
--- ---- which of two numbers comes first
-
-module _ (m n : ℕ) where
-  pub which-first : m < n → whichOf m n ≡ 1
-  unfolding whichOf
-  which-first h = rw (lt-ltb m n h)
-
-  pub which-second : n < m → whichOf m n ≡ 2
-  unfolding whichOf
-  which-second h = rw (le-ltb m n (omega arith), lt-ltb n m h)
-
-  pub which-equal : m ≡ n → whichOf m n ≡ 3
-  unfolding whichOf
-  which-equal e = rw (le-ltb m n (omega arith), le-ltb n m (omega arith))
-
--- ---- the loop
 
 pub record Level (counts s t : List ℕ) (parity below j : ℕ) : Type 0 where
   pub done : j ≤ length counts

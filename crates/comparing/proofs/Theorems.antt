@@ -1,0 +1,196 @@
+-- Theorems on Which, Earlier and Distance, over their contracts as the functions state them: `Post` says which answers each allows for which input.
+use Prim.Native.Nat.{ℕ, zero, suc, _^_, _≤_, _<_}
+use mathlib.Core.Path.{_≡_, refl, sym, ap, _∙_}
+use mathlib.Core.List.{List}
+use native.Mathlib.Decide.{ℕ-discrete}
+use native.Mathlib.Omega.{arith}
+use borrow.Author.Tests.{ne-eqb}
+use lib.IntN.{ℤ, pos, _-ℤ_, +ℤ-invr}
+use mir.Syntax.{w64}
+use mir.Val.{SFits}
+use contract.Lifetimes.{Lfts}
+use borrow.Fn.Kinds.{Dens, endedOf}
+use denote.Triple.Clauses.{AtExit}
+use Rattle.rules.specs.Stock.{total, IsStock, IsStrip}
+use Rattle.rules.specs.Book.{book, placeIn}
+use Rattle.rules.specs.Refusals.{No, firstOf, unless, pairNos}
+use Rattle.rules.specs.Outcome.{OneAnswer}
+use Rattle.rules.proofs.Listed.{same-place}
+use Rattle.rules.proofs.Strips.{listed}
+use Rattle.rules.proofs.Places.{place-number}
+use Rattle.rules.proofs.Refusals.{passed-both, passed-first, unless-refused, unless-passed, many-passed}
+use Rattle.rules.proofs.Checks.{passed-head, accepted-pair, accepted-pair-back, numberable}
+use Rattle.comparing.specs.declared.which.Compared.{Compared}
+use Rattle.comparing.specs.declared.distance.Apart.{Apart}
+use Rattle.comparing.specs.Order.{whichOf}
+use Rattle.comparing.specs.Answers.{whichAnswer, Lent, EmptyPart, named, IsEarlier, distanceNos, distanceAnswer}
+use Rattle.comparing.proofs.Numbers.{which-first, which-second, which-equal, only-second, only-equal}
+use Rattle.comparing.proofs.Signed.{far-fits, fits-near}
+use Rattle.comparing.proofs.which.which.Kinds as which
+use Rattle.comparing.proofs.which.which.Reads as which-reads
+use Rattle.comparing.proofs.earlier.earlier.Kinds as earlier
+use Rattle.comparing.proofs.earlier.earlier.Reads as earlier-reads
+use Rattle.comparing.proofs.distance.distance.Kinds as distance
+use Rattle.comparing.proofs.distance.distance.Reads as distance-reads
+
+-- ---- Which
+
+-- two answers that the contract allows for one input are the same
+pub which-one-outcome : OneAnswer 3 which.ps which.r which-reads.Post
+which-one-outcome κs a x y s t h k = h ∙ sym k
+
+-- any answer r that the contract allows for a stock and two strips
+module _ (κs : Lfts 3) (a : Dens κs which.ps) (r : Compared) (s : AtExit (endedOf 3 which.ps which.r) κs) (h : which-reads.Post κs a r s) where
+  abbrev counts : List ℕ
+  counts = a .0 .now
+
+  abbrev first : List ℕ
+  first = a .1 .0 .now
+
+  abbrev second : List ℕ
+  second = a .1 .1 .0 .now
+
+  which-no : r .refusal .no ≡ firstOf (pairNos counts first second) .0
+  unfolding whichAnswer
+  which-no = ap (λ (r : Compared). r .refusal .no) h
+
+  which-is : r .which ≡ unless (firstOf (pairNos counts first second)) 0 (whichOf (placeIn (book counts) first) (placeIn (book counts) second))
+  unfolding whichAnswer
+  which-is = ap (λ (r : Compared). r .which) h
+
+  -- it refuses no more and no less than the table says
+  pub which-accepts : r .refusal .no ≡ 0 → IsStock counts × IsStrip counts first × IsStrip counts second
+  which-accepts e = accepted-pair counts first second (sym which-no ∙ e)
+
+  pub which-accepted : IsStock counts → IsStrip counts first → IsStrip counts second → r .refusal .no ≡ 0
+  which-accepted stock one two = which-no ∙ accepted-pair-back counts first second stock one two
+
+  pub which-refused-zero : (r .refusal .no ≡ 0 → ⊥) → r .which ≡ 0
+  which-refused-zero e = which-is ∙ unless-refused 0 _ _ (λ k. e (which-no ∙ k))
+
+  module _ (e : r .refusal .no ≡ 0) where
+    order-is : r .which ≡ whichOf (placeIn (book counts) first) (placeIn (book counts) second)
+    order-is = which-is ∙ unless-passed 0 _ _ (sym which-no ∙ e)
+
+    pub first-is-1 : placeIn (book counts) first < placeIn (book counts) second → r .which ≡ 1
+    first-is-1 l = order-is ∙ which-first _ _ l
+
+    pub second-is-2 : placeIn (book counts) second < placeIn (book counts) first → r .which ≡ 2
+    second-is-2 l = order-is ∙ which-second _ _ l
+
+    pub same-is-3 : first ≡ second → r .which ≡ 3
+    same-is-3 k = order-is ∙ which-equal _ _ (ap (placeIn (book counts)) k)
+
+    -- equal are only two strips that are the same
+    pub only-same-is-3 : r .which ≡ 3 → first ≡ second
+    only-same-is-3 k =
+        let one = which-accepts e .1 in
+        let two = which-accepts e .2 in
+        same-place (listed counts) first second one two (sym (place-number counts first one) ∙ only-equal _ _ (sym order-is ∙ k) ∙ place-number counts second two)
+
+-- ---- Earlier
+
+-- any slice r that the contract allows for a stock and two lent strips
+module _ (κs : Lfts 2) (a : Dens κs earlier.ps) (r : Lent) (s : AtExit (endedOf 2 earlier.ps earlier.r) κs) (h : earlier-reads.Post κs a r s) where
+  abbrev stock : List ℕ
+  stock = a .0 .now
+
+  abbrev lent-first : Lent
+  lent-first = a .1 .0
+
+  abbrev lent-second : Lent
+  lent-second = a .1 .1 .0
+
+  abbrev refused : No
+  refused = firstOf (pairNos stock (lent-first .now) (lent-second .now))
+
+  abbrev chosen : Lent
+  chosen = named (whichOf (placeIn (book stock) (lent-first .now)) (placeIn (book stock) (lent-second .now))) lent-first lent-second
+
+  -- where refused, the empty part at the start of the first lent strip, and else one of the two lent
+  pub earlier-refused : (refused .0 ≡ 0 → ⊥) → EmptyPart lent-first r
+  unfolding IsEarlier
+  earlier-refused f = go refused f h
+    where
+      go : (p : No) → (p .0 ≡ 0 → ⊥) → unless p (EmptyPart lent-first r) (r ≡ chosen) → EmptyPart lent-first r
+      go (zero, p) f k = absurd (f refl)
+      go (suc n, p) f k = k
+
+  earlier-chosen : refused .0 ≡ 0 → r ≡ chosen
+  unfolding IsEarlier
+  earlier-chosen f = go refused f h
+    where
+      go : (p : No) → p .0 ≡ 0 → unless p (EmptyPart lent-first r) (r ≡ chosen) → r ≡ chosen
+      go (zero, p) f k = k
+      go (suc n, p) f k = absurd (omega arith)
+
+  pub earlier-second : refused .0 ≡ 0 → placeIn (book stock) (lent-second .now) < placeIn (book stock) (lent-first .now) → r ≡ lent-second
+  earlier-second f l = earlier-chosen f ∙ rw (which-second _ _ l)
+
+  -- the first lent where the two are equal
+  pub earlier-first : refused .0 ≡ 0 → placeIn (book stock) (lent-first .now) ≤ placeIn (book stock) (lent-second .now) → r ≡ lent-first
+  earlier-first f l =
+      let i = placeIn (book stock) (lent-first .now) in
+      let j = placeIn (book stock) (lent-second .now) in
+      earlier-chosen f ∙ rw (ne-eqb (whichOf i j) 2 (λ e. omega (arith, only-second i j e)))
+
+-- two slices that the contract allows for one input are the same: they start at one place and hold the same blocks
+pub earlier-one-slice : (κs : Lfts 2) (a : Dens κs earlier.ps) (x y : Lent) (s t : AtExit (endedOf 2 earlier.ps earlier.r) κs) → earlier-reads.Post κs a x s → earlier-reads.Post κs a y t → (x .ptr ≡ y .ptr) × (x .now ≡ y .now)
+earlier-one-slice κs a x y s t h k = elim (ℕ-discrete (refused κs a x s h .0) 0) [
+  | yes f ↦ let e : x ≡ y = earlier-chosen κs a x s h f ∙ sym (earlier-chosen κs a y t k f) in (ap (λ (r : Lent). r .ptr) e, ap (λ (r : Lent). r .now) e)
+  | no f ↦ let e = earlier-refused κs a x s h f in let g = earlier-refused κs a y t k f in (e .0 ∙ sym (g .0), e .1 ∙ sym (g .1))
+]
+
+-- ---- Distance
+
+pub distance-one-outcome : OneAnswer 3 distance.ps distance.r distance-reads.Post
+distance-one-outcome κs a x y s t h k = h ∙ sym k
+
+-- any answer r that the contract allows for a stock and two strips
+module _ (κs : Lfts 3) (a : Dens κs distance.ps) (r : Apart) (s : AtExit (endedOf 3 distance.ps distance.r) κs) (h : distance-reads.Post κs a r s) where
+  abbrev the-counts : List ℕ
+  the-counts = a .0 .now
+
+  abbrev from : List ℕ
+  from = a .1 .0 .now
+
+  abbrev to : List ℕ
+  to = a .1 .1 .0 .now
+
+  -- from the number of the first to that of the second
+  abbrev moves : ℤ
+  moves = pos (placeIn (book the-counts) to) -ℤ pos (placeIn (book the-counts) from)
+
+  distance-no : r .refusal .no ≡ firstOf (distanceNos the-counts from to) .0
+  unfolding distanceAnswer
+  distance-no = ap (λ (r : Apart). r .refusal .no) h
+
+  moves-are : r .moves ≡ unless (firstOf (distanceNos the-counts from to)) (pos 0) moves
+  unfolding distanceAnswer
+  moves-are = ap (λ (r : Apart). r .moves) h
+
+  -- it refuses no more and no less than the table says: past the checks of the strips, a total of 2^64 or more, and a difference that no signed 64-bit number holds
+  pub distance-accepts : r .refusal .no ≡ 0 → IsStock the-counts × IsStrip the-counts from × IsStrip the-counts to × (total the-counts < 2 ^ 64) × SFits w64 moves
+  unfolding distanceNos
+  distance-accepts e =
+      let p = passed-both (pairNos the-counts from to) _ (sym distance-no ∙ e) in
+      let b = accepted-pair the-counts from to (p .0) in
+      let q = passed-head _ _ (p .1) in
+      (b .0, b .1, b .2, numberable the-counts (q .0), far-fits (placeIn (book the-counts) from) (placeIn (book the-counts) to) (passed-head _ _ (q .1) .0))
+
+  pub distance-accepted : IsStock the-counts → IsStrip the-counts from → IsStrip the-counts to → total the-counts < 2 ^ 64 → SFits w64 moves → r .refusal .no ≡ 0
+  unfolding distanceNos firstOf
+  distance-accepted stock one two few fits = distance-no ∙ rw (passed-first (pairNos the-counts from to) _ (accepted-pair-back the-counts from to stock one two), many-passed the-counts few, fits-near (placeIn (book the-counts) from) (placeIn (book the-counts) to) fits)
+
+  pub distance-is : r .refusal .no ≡ 0 → r .moves ≡ moves
+  distance-is e = moves-are ∙ unless-passed (pos 0) _ _ (sym distance-no ∙ e)
+
+  pub distance-refused-zero : (r .refusal .no ≡ 0 → ⊥) → r .moves ≡ pos 0
+  distance-refused-zero e = moves-are ∙ unless-refused (pos 0) _ _ (λ k. e (distance-no ∙ k))
+
+  -- from a strip to itself it is 0
+  pub self-zero : IsStock the-counts → IsStrip the-counts from → total the-counts < 2 ^ 64 → to ≡ from → (r .refusal .no ≡ 0) × (r .moves ≡ pos 0)
+  self-zero stock own few e =
+      let z : moves ≡ pos 0 = ap (λ (t : List ℕ). pos (placeIn (book the-counts) t) -ℤ pos (placeIn (book the-counts) from)) e ∙ +ℤ-invr (pos (placeIn (book the-counts) from)) in
+      let a : r .refusal .no ≡ 0 = distance-accepted stock own (rw e own) few (rw z (record { sfits = omega arith })) in
+      (a, distance-is a ∙ z)
