@@ -1,7 +1,7 @@
 // Distance: how many moves on from one strip another is, or back where the number is negative.
 use choose::table;
+use counting::total_of;
 use numbering::number_of;
-use numbering::total_of;
 use stock::Refusal;
 use stock::check_pair;
 ghost use mathlib.Core.Path.{_≡_};
