@@ -1,7 +1,7 @@
 -- Proofs. The marked totals of document 01 whose binomials are read from the triangle, which Pascal's rule itself would take too long to reach.
 use Prim.Native.Nat.{ℕ, _+_, _*_, _^_, _≤_}
 use mathlib.Core.Path.{_≡_, sym, _∙_}
-use mathlib.Core.List.{List, [], _∷_}
+use mathlib.Core.List.{[], _∷_}
 use native.Mathlib.Nat.{add-zero, one-mul}
 use native.Mathlib.Omega.{arith}
 use Rattle.rules.specs.Stock.{sum, binom, total}
