@@ -28,9 +28,10 @@ fn lay_runs(stock: &[u16], strip: &mut [u8])
     let mut j: usize = 0;
     while j < stock.len() {
         let to = from + stock[j] as usize;
-        j += 1;
-        fill(&mut strip[from..to], j as u8);
+        let kind = j + 1;
+        fill(&mut strip[from..to], kind as u8);
         from = to;
+        j += 1;
     }
 }
 

@@ -38,6 +38,7 @@ lay-runs-spec =
     (λ c. omega (arith, c .before .before .before .before .before .before .pre .0 .few))
     (λ c κs. tt)
     (λ c. omega arith)
+    (λ c. omega arith)
     loop-again
     (λ c. c .before .loop .inv .room ∙ sym (c .before .before .before .before .pre .1))
     (λ c. end (c .before .loop .inv) (c .loop-test .left)))
