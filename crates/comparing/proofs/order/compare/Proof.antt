@@ -80,10 +80,10 @@ indices c =
     fits-both (a .1) (a .2) (b .before .loop .inv) (a .0) (b .loop-test .taken) (c .before .before .choose .ensures) (c .before .index-at .ensures) (c .index-at2 .ensures)
 
 numbered-by-requires : tie.Need-numbered-by-requires Inv-loop μ-loop
-numbered-by-requires c κs = (indices c .within₁, indices c .fits)
+numbered-by-requires c κs = (indices c .within₁, omega (arith, indices c .fits))
 
 numbered-by-requires-2 : tie.Need-numbered-by-requires-2 Inv-loop μ-loop
-numbered-by-requires-2 c κs = (indices (c .before) .within₂, indices (c .before) .fits)
+numbered-by-requires-2 c κs = (indices (c .before) .within₂, omega (arith, indices (c .before) .fits))
 
 found : (c : tie.After-numbered-by2 Inv-loop μ-loop) → let b = c .before .before .before .before .before .before in Turn (counts b) (one b) (two b) (n b) (kind b) (c .before .numbered-by .result) (c .numbered-by2 .result)
 found c =
