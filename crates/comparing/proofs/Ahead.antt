@@ -8,7 +8,6 @@ use lib.ListN.{length, take}
 use lib.Seq.{take-all}
 use Rattle.rules.specs.Stock.{sum, IsStrip}
 use Rattle.rules.specs.Book.{odd, reduced, book, placeIn}
-use Rattle.rules.proofs.Listed.{face}
 use Rattle.rules.proofs.Patterns.{listed-E}
 use Rattle.rules.proofs.Snake.{numbered}
 use Rattle.rules.proofs.Books.{pattern}
@@ -29,17 +28,16 @@ odd-parity : (q : ℕ) → odd (q % 2) ≡ odd q
 odd-parity q = rw (odd-mod q) (odd-bit (odd q))
 
 module _ (n q : ℕ) where
-  pub parity-lt : (i k : ℕ) → numbered n (q % 2) i < numbered n (q % 2) k → numbered n q i < numbered n q k
+  -- how far it shifts the numbers
+  shifted : (i : ℕ) → numbered n q i + q % 2 * n ≡ numbered n (q % 2) i + q * n
   unfolding numbered
-  parity-lt i k h =
-      let l : q % 2 * n + face (odd q) n i < q % 2 * n + face (odd q) n k = rw (odd-parity q) at h in
-      omega arith
+  shifted i = rw (odd-parity q) (omega arith)
+
+  pub parity-lt : (i k : ℕ) → numbered n (q % 2) i < numbered n (q % 2) k → numbered n q i < numbered n q k
+  parity-lt i k h = omega (arith, shifted i, shifted k)
 
   pub parity-same : (i k : ℕ) → numbered n (q % 2) i ≡ numbered n (q % 2) k → numbered n q i ≡ numbered n q k
-  unfolding numbered
-  parity-same i k h =
-      let l : q % 2 * n + face (odd q) n i ≡ q % 2 * n + face (odd q) n k = rw (odd-parity q) at h in
-      omega arith
+  parity-same i k h = omega (arith, shifted i, shifted k)
 
   pub parity-next : (i : ℕ) → numbered n (q % 2) i % 2 ≡ numbered n q i % 2
   parity-next i =

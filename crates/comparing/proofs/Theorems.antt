@@ -25,6 +25,7 @@ use Rattle.comparing.specs.declared.distance.Apart.{Apart}
 use Rattle.comparing.specs.Order.{whichOf}
 use Rattle.comparing.specs.Answers.{whichAnswer, Lent, EmptyPart, named, IsEarlier, distanceNos, distanceAnswer}
 use Rattle.comparing.proofs.Numbers.{which-first, which-second, which-equal, only-second, only-equal}
+use Rattle.comparing.proofs.Handed.{order, refused}
 use Rattle.comparing.proofs.Signed.{far-fits, fits-near}
 use Rattle.comparing.proofs.which.which.Kinds as which
 use Rattle.comparing.proofs.which.which.Reads as which-reads
@@ -101,44 +102,47 @@ module _ (κs : Lfts 2) (a : Dens κs earlier.ps) (r : Lent) (s : AtExit (endedO
   abbrev lent-second : Lent
   lent-second = a .1 .1 .0
 
-  abbrev refused : No
-  refused = firstOf (pairNos stock (lent-first .now) (lent-second .now))
+  abbrev first-no : No
+  first-no = refused stock lent-first lent-second
 
   abbrev chosen : Lent
-  chosen = named (whichOf (placeIn (book stock) (lent-first .now)) (placeIn (book stock) (lent-second .now))) lent-first lent-second
+  chosen = named (order stock lent-first lent-second) lent-first lent-second
 
-  -- where refused, the empty part at the start of the first lent strip, and else one of the two lent
-  pub earlier-refused : (refused .0 ≡ 0 → ⊥) → EmptyPart lent-first r
+  -- where refused, the empty part at the start of the first lent strip
+  pub earlier-refused : (first-no .0 ≡ 0 → ⊥) → EmptyPart lent-first r
   unfolding IsEarlier
-  earlier-refused f = go refused f h
+  earlier-refused f = go first-no f h
     where
       go : (p : No) → (p .0 ≡ 0 → ⊥) → unless p (EmptyPart lent-first r) (r ≡ chosen) → EmptyPart lent-first r
       go (zero, p) f k = absurd (f refl)
       go (suc n, p) f k = k
 
-  earlier-chosen : refused .0 ≡ 0 → r ≡ chosen
+  earlier-chosen : first-no .0 ≡ 0 → r ≡ chosen
   unfolding IsEarlier
-  earlier-chosen f = go refused f h
+  earlier-chosen f = go first-no f h
     where
       go : (p : No) → p .0 ≡ 0 → unless p (EmptyPart lent-first r) (r ≡ chosen) → r ≡ chosen
       go (zero, p) f k = k
       go (suc n, p) f k = absurd (omega arith)
 
-  pub earlier-second : refused .0 ≡ 0 → placeIn (book stock) (lent-second .now) < placeIn (book stock) (lent-first .now) → r ≡ lent-second
+  -- and else one of the two lent strips, the first where they are equal
+  pub earlier-second : first-no .0 ≡ 0 → placeIn (book stock) (lent-second .now) < placeIn (book stock) (lent-first .now) → r ≡ lent-second
   earlier-second f l = earlier-chosen f ∙ rw (which-second _ _ l)
 
-  -- the first lent where the two are equal
-  pub earlier-first : refused .0 ≡ 0 → placeIn (book stock) (lent-first .now) ≤ placeIn (book stock) (lent-second .now) → r ≡ lent-first
-  earlier-first f l =
-      let i = placeIn (book stock) (lent-first .now) in
-      let j = placeIn (book stock) (lent-second .now) in
-      earlier-chosen f ∙ rw (ne-eqb (whichOf i j) 2 (λ e. omega (arith, only-second i j e)))
+  pub earlier-first : first-no .0 ≡ 0 → placeIn (book stock) (lent-first .now) ≤ placeIn (book stock) (lent-second .now) → r ≡ lent-first
+  earlier-first f l = earlier-chosen f ∙ rw (ne-eqb (order stock lent-first lent-second) 2 (λ e. omega (arith, only-second _ _ e)))
 
 -- two slices that the contract allows for one input are the same: they start at one place and hold the same blocks
-pub earlier-one-slice : (κs : Lfts 2) (a : Dens κs earlier.ps) (x y : Lent) (s t : AtExit (endedOf 2 earlier.ps earlier.r) κs) → earlier-reads.Post κs a x s → earlier-reads.Post κs a y t → (x .ptr ≡ y .ptr) × (x .now ≡ y .now)
-earlier-one-slice κs a x y s t h k = elim (ℕ-discrete (refused κs a x s h .0) 0) [
-  | yes f ↦ let e : x ≡ y = earlier-chosen κs a x s h f ∙ sym (earlier-chosen κs a y t k f) in (ap (λ (r : Lent). r .ptr) e, ap (λ (r : Lent). r .now) e)
-  | no f ↦ let e = earlier-refused κs a x s h f in let g = earlier-refused κs a y t k f in (e .0 ∙ sym (g .0), e .1 ∙ sym (g .1))
+pub earlier-one-slice : (κs : Lfts 2) (a : Dens κs earlier.ps) (x y : Lent) (s t : AtExit (endedOf 2 earlier.ps earlier.r) κs)
+    → earlier-reads.Post κs a x s → earlier-reads.Post κs a y t → (x .ptr ≡ y .ptr) × (x .now ≡ y .now)
+earlier-one-slice κs a x y s t h k = elim (ℕ-discrete (refused (a .0 .now) (a .1 .0) (a .1 .1 .0) .0) 0) [
+  | yes f ↦
+      let e : x ≡ y = earlier-chosen κs a x s h f ∙ sym (earlier-chosen κs a y t k f) in
+      (ap (λ (r : Lent). r .ptr) e, ap (λ (r : Lent). r .now) e)
+  | no f ↦
+      let e = earlier-refused κs a x s h f in
+      let g = earlier-refused κs a y t k f in
+      (e .0 ∙ sym (g .0), e .1 ∙ sym (g .1))
 ]
 
 -- ---- Distance

@@ -2,18 +2,16 @@
 use mathlib.Core.Path.{_≡_, refl, ap}
 use native.Mathlib.Omega.{arith}
 use borrow.Author.Needs.{needs}
-use Rattle.rules.specs.Book.{book, placeIn}
-use Rattle.rules.specs.Refusals.{firstOf, unless, pairNos}
+use Rattle.rules.specs.Refusals.{unless}
 use Rattle.comparing.specs.declared.which.Compared.{Compared}
-use Rattle.comparing.specs.Order.{whichOf}
 use Rattle.comparing.specs.Answers.{whichAnswer}
-use Rattle.comparing.proofs.Handed.{handed-none, handed-second, handed-first}
+use Rattle.comparing.proofs.Handed.{order, refused, handed-none, handed-second, handed-first}
 use Rattle.comparing.proofs.earlier.earlier.Statement.{statement}
 use Rattle.comparing.proofs.earlier.earlier.Tie as tie
 
 -- what Which answered, beside its refusal
 order-is : (c : tie.After-which) → let a = c .before .before .before .before .args in
-    c .which .result .which ≡ unless (firstOf (pairNos (a .stock .now) (a .first .now) (a .second .now))) 0 (whichOf (placeIn (book (a .stock .now)) (a .first .now)) (placeIn (book (a .stock .now)) (a .second .now)))
+    c .which .result .which ≡ unless (refused (a .stock .now) (a .first) (a .second)) 0 (order (a .stock .now) (a .first) (a .second))
 unfolding whichAnswer
 order-is c = ap (λ (r : Compared). r .which) (c .which .ensures)
 
