@@ -1,0 +1,2 @@
+-- TO BE BELIEVED: what a walker is, and what Open answers.
+pub mod Walkers

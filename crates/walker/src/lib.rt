@@ -1,0 +1,7 @@
+// The walker of a strip: the direction of each kind.
+
+// Sixteen directions, kind 1 first: true is backward. Kind 1 and unused kinds run forward.
+#[repr(C)]
+pub struct Walker {
+    pub back: [bool; 16],
+}

@@ -1,0 +1,21 @@
+// Walking: moving a strip on and back through its book.
+use stock::Refusal;
+use walker::Walker;
+
+// What Forward and Back answer: the two places that were exchanged, smaller first, and the walker of the strip as it then stands.
+#[repr(C)]
+pub struct Moved {
+    pub refusal: Refusal,
+    pub low: u8,
+    pub high: u8,
+    pub walker: Walker,
+}
+
+// What Run answers.
+#[repr(C)]
+pub struct Ran {
+    pub refusal: Refusal,
+    pub moves: u64,
+    pub last: bool,
+    pub walker: Walker,
+}
