@@ -1,0 +1,78 @@
+-- Proofs. A walker with the directions of the kinds above one turned; and that the walker after a move is the walker before it, so turned.
+use Prim.Native.Nat.{ℕ, suc, _+_, _-_, _≤_, _<_}
+use mathlib.Core.Path.{_≡_, refl, sym, ap, _∙_}
+use mathlib.Core.Bool.{Bool, false, not, _&&_}
+use mathlib.Core.Option.{Option}
+use mathlib.Core.List.{List, reverse}
+use native.Mathlib.Decide.{decLt}
+use native.Mathlib.Numerals.{add-one}
+use native.Mathlib.Omega.{arith}
+use borrow.Author.Tests.{lt-ltb, le-ltb, le-leb, lt-leb}
+use lib.Dec.{ltb, leb}
+use lib.ListN.{length, getD, set}
+use Rattle.rules.specs.Stock.{IsStrip}
+use Rattle.rules.proofs.Listed.{flip}
+use Rattle.rules.proofs.Walk.{Move, Leads}
+use Rattle.rules.proofs.Directions.{kinds-above-turn}
+use Rattle.walker.specs.declared.Walker.{Walker}
+use Rattle.walker.specs.Walkers.{walkerOf}
+use Rattle.walker.specs.Turned.{turnedAt, turnedAbove}
+use Rattle.walker.proofs.ByKind.{at-kind, same-walker, stored, direction, walker-long, walker-at}
+
+module _ (kind last : ℕ) (w : Walker) where
+  long : length (turnedAbove kind last w .back) ≡ 16
+  unfolding turnedAbove
+  long = refl
+
+  module _ (i : ℕ) (h : i < 16) where
+    turned-at : getD (turnedAbove kind last w .back) i false ≡ flip (leb (suc i) last && ltb kind (suc i)) (getD (w .back) i false)
+    unfolding turnedAbove
+    turned-at =
+        let e : suc i - 1 ≡ i = omega arith in
+        rw e at (at-kind (turnedAt kind last w) i h)
+
+    turned : kind ≤ i → i < last → getD (turnedAbove kind last w .back) i false ≡ not (getD (w .back) i false)
+    turned k l = rw (le-leb (suc i) last l, lt-ltb kind (suc i) (omega arith)) at turned-at
+
+    stays : (i < last → i < kind) → getD (turnedAbove kind last w .back) i false ≡ getD (w .back) i false
+    stays k = elim (decLt i last) [
+      | yes l ↦ rw (le-leb (suc i) last l, le-ltb kind (suc i) (k l)) at turned-at
+      | no l ↦ rw (lt-leb (suc i) last (omega arith)) at turned-at
+    ]
+
+-- ---- a loop that turns them, one after the other
+
+module _ (kind : ℕ) (w : Walker) where
+  -- at first none is turned
+  pub turned-none : length (w .back) ≡ 16 → w ≡ turnedAbove kind kind w
+  turned-none l = same-walker w (turnedAbove kind kind w) l (long kind kind w) (λ i h. sym (stays kind kind w i h (λ m. m)))
+
+  -- one kind more
+  module _ (j : ℕ) (h : kind ≤ j) (l : j < 16) (v : Walker) (is : v ≡ turnedAbove kind j w) where
+    pub turned-one : record { back = set (v .back) j (not (getD (v .back) j false)) } ≡ turnedAbove kind (j + 1) w
+    turned-one = rw (is, add-one j) (stored (turnedAbove kind j w) (turnedAbove kind (suc j) w) (long kind j w) (long kind (suc j) w) j _ l new old)
+      where
+        new : not (getD (turnedAbove kind j w .back) j false) ≡ getD (turnedAbove kind (suc j) w .back) j false
+        new = ap not (stays kind j w j l (λ m. omega arith)) ∙ sym (turned kind (suc j) w j l h (omega arith))
+
+        old : (i : ℕ) → i < 16 → (i ≡ j → ⊥) → getD (turnedAbove kind j w .back) i false ≡ getD (turnedAbove kind (suc j) w .back) i false
+        old i k e = turned-at kind j w i k ∙ elim (decLt i j) [
+          | yes m ↦ rw (le-leb (suc i) j m) (rw (le-leb (suc i) (suc j) (omega arith)) at (sym (turned-at kind (suc j) w i k)))
+          | no m ↦ rw (lt-leb (suc i) j (omega arith)) (rw (lt-leb (suc i) (suc j) (omega arith)) at (sym (turned-at kind (suc j) w i k)))
+        ]
+
+-- ---- a move
+
+module _ (counts s t : List ℕ) (hs : IsStrip counts s) (ht : IsStrip counts t) (o : Option Move) (m : Leads (reverse counts) s t o) where
+  turns : (i : ℕ) → Dec (i < length counts) → direction counts t (suc i) ≡ flip (leb (suc i) (length counts) && ltb (m .kind) (suc i)) (direction counts s (suc i))
+  turns i (yes l) = rw (le-leb (suc i) (length counts) l) (kinds-above-turn counts s t hs ht o m i l)
+  turns i (no l) = rw (lt-leb (suc i) (length counts) (omega arith))
+
+  -- the walker of the strip that a move leads to: the kinds above the one that moves turn, it and those below do not
+  pub move-turns : walkerOf counts t ≡ turnedAbove (m .kind) (length counts) (walkerOf counts s)
+  move-turns =
+      let w = walkerOf counts s in
+      same-walker (walkerOf counts t) (turnedAbove (m .kind) (length counts) w) (walker-long counts t) (long (m .kind) (length counts) w) (λ i h.
+      walker-at counts t i h
+      ∙ turns i (decLt i (length counts))
+      ∙ sym (rw (walker-at counts s i h) at (turned-at (m .kind) (length counts) w i h)))
