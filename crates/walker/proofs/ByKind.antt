@@ -3,9 +3,10 @@ use Prim.Native.Nat.{ℕ, zero, suc, _+_, _<_}
 use mathlib.Core.Path.{_≡_, refl, sym, ap, _∙_}
 use mathlib.Core.Bool.{Bool, false, _&&_}
 use mathlib.Core.List.{List, [], _∷_, map}
-use native.Mathlib.Decide.{ℕ-discrete}
+use native.Mathlib.Decide.{ℕ-discrete, decLt}
 use native.Mathlib.Numerals.{one-add}
 use native.Mathlib.Omega.{arith}
+use borrow.Author.Tests.{le-leb, lt-leb}
 use lib.Dec.{leb}
 use lib.ListN.{length, getD, set, length-set}
 use lib.Seq.{ext-getD, getD-set-same, getD-set-other}
@@ -52,15 +53,25 @@ module _ (v w : Walker) (k : Long v) (l : Long w) (j : ℕ) (b : Bool) (h : j < 
 
 -- ---- the walker of a strip
 
--- the direction of a kind in a strip
-abbrev pub direction : List ℕ → List ℕ → ℕ → Bool
-direction counts s j = leb j (length counts) && backward counts j s
+-- the walker of a strip, with the directions of the kinds up to the last alone
+unfoldable pub walkerTo : List ℕ → List ℕ → ℕ → Walker
+walkerTo counts s last = record { back = map (λ j. leb j last && backward counts j s) kinds }
 
-module _ (counts s : List ℕ) where
-  pub walker-long : length (walkerOf counts s .back) ≡ 16
-  unfolding walkerOf directions
-  walker-long = refl
+pub walker-to : (counts s : List ℕ) → walkerOf counts s ≡ walkerTo counts s (length counts)
+unfolding walkerOf directions walkerTo
+walker-to counts s = refl
 
-  pub walker-at : (i : ℕ) → i < 16 → getD (walkerOf counts s .back) i false ≡ direction counts s (suc i)
-  unfolding walkerOf directions
-  walker-at = at-kind (direction counts s)
+module _ (counts s : List ℕ) (last : ℕ) where
+  pub to-long : length (walkerTo counts s last .back) ≡ 16
+  unfolding walkerTo
+  to-long = refl
+
+  pub to-at : (i : ℕ) → i < 16 → getD (walkerTo counts s last .back) i false ≡ leb (suc i) last && backward counts (suc i) s
+  unfolding walkerTo
+  to-at = at-kind (λ j. leb j last && backward counts j s)
+
+pub up-to-same : (i j : ℕ) → (i ≡ j → ⊥) → leb (suc i) j ≡ leb (suc i) (suc j)
+up-to-same i j e = elim (decLt i j) [
+  | yes l ↦ le-leb (suc i) j l ∙ sym (le-leb (suc i) (suc j) (omega arith))
+  | no l ↦ lt-leb (suc i) j (omega arith) ∙ sym (lt-leb (suc i) (suc j) (omega arith))
+]

@@ -1,3 +1,5 @@
 -- Proofs: nobody needs to read these to know what holds.
 mod ByKind
+mod Building
+pub mod Differing
 pub mod Turns

@@ -11,13 +11,14 @@ use borrow.Author.Tests.{lt-ltb, le-ltb, le-leb, lt-leb}
 use lib.Dec.{ltb, leb}
 use lib.ListN.{length, getD, set}
 use Rattle.rules.specs.Stock.{IsStrip}
+use Rattle.rules.specs.Book.{backward}
 use Rattle.rules.proofs.Listed.{flip}
 use Rattle.rules.proofs.Walk.{Move, Leads}
 use Rattle.rules.proofs.Directions.{kinds-above-turn}
 use Rattle.walker.specs.declared.Walker.{Walker}
 use Rattle.walker.specs.Walkers.{walkerOf}
 use Rattle.walker.specs.Turned.{turnedAt, turnedAbove}
-use Rattle.walker.proofs.ByKind.{at-kind, same-walker, stored, direction, walker-long, walker-at}
+use Rattle.walker.proofs.ByKind.{at-kind, same-walker, stored, walkerTo, walker-to, to-long, to-at, up-to-same}
 
 module _ (kind last : ℕ) (w : Walker) where
   long : length (turnedAbove kind last w .back) ≡ 16
@@ -56,23 +57,27 @@ module _ (kind : ℕ) (w : Walker) where
         new = ap not (stays kind j w j l (λ m. omega arith)) ∙ sym (turned kind (suc j) w j l h (omega arith))
 
         old : (i : ℕ) → i < 16 → (i ≡ j → ⊥) → getD (turnedAbove kind j w .back) i false ≡ getD (turnedAbove kind (suc j) w .back) i false
-        old i k e = turned-at kind j w i k ∙ elim (decLt i j) [
-          | yes m ↦ rw (le-leb (suc i) j m) (rw (le-leb (suc i) (suc j) (omega arith)) at (sym (turned-at kind (suc j) w i k)))
-          | no m ↦ rw (lt-leb (suc i) j (omega arith)) (rw (lt-leb (suc i) (suc j) (omega arith)) at (sym (turned-at kind (suc j) w i k)))
-        ]
+        old i k e =
+            turned-at kind j w i k
+            ∙ ap (λ (b : Bool). flip (b && ltb kind (suc i)) (getD (w .back) i false)) (up-to-same i j e)
+            ∙ sym (turned-at kind (suc j) w i k)
 
 -- ---- a move
 
 module _ (counts s t : List ℕ) (hs : IsStrip counts s) (ht : IsStrip counts t) (o : Option Move) (m : Leads (reverse counts) s t o) where
-  turns : (i : ℕ) → Dec (i < length counts) → direction counts t (suc i) ≡ flip (leb (suc i) (length counts) && ltb (m .kind) (suc i)) (direction counts s (suc i))
-  turns i (yes l) = rw (le-leb (suc i) (length counts) l) (kinds-above-turn counts s t hs ht o m i l)
-  turns i (no l) = rw (lt-leb (suc i) (length counts) (omega arith))
+  abbrev last : ℕ
+  last = length counts
+
+  turns : (i : ℕ) → Dec (i < last) → leb (suc i) last && backward counts (suc i) t ≡ flip (leb (suc i) last && ltb (m .kind) (suc i)) (leb (suc i) last && backward counts (suc i) s)
+  turns i (yes l) = rw (le-leb (suc i) last l) (kinds-above-turn counts s t hs ht o m i l)
+  turns i (no l) = rw (lt-leb (suc i) last (omega arith))
 
   -- the walker of the strip that a move leads to: the kinds above the one that moves turn, it and those below do not
-  pub move-turns : walkerOf counts t ≡ turnedAbove (m .kind) (length counts) (walkerOf counts s)
+  pub move-turns : walkerOf counts t ≡ turnedAbove (m .kind) last (walkerOf counts s)
   move-turns =
-      let w = walkerOf counts s in
-      same-walker (walkerOf counts t) (turnedAbove (m .kind) (length counts) w) (walker-long counts t) (long (m .kind) (length counts) w) (λ i h.
-      walker-at counts t i h
-      ∙ turns i (decLt i (length counts))
-      ∙ sym (rw (walker-at counts s i h) at (turned-at (m .kind) (length counts) w i h)))
+      let w = walkerTo counts s last in
+      rw (walker-to counts s, walker-to counts t)
+      (same-walker (walkerTo counts t last) (turnedAbove (m .kind) last w) (to-long counts t last) (long (m .kind) last w) (λ i h.
+      to-at counts t last i h
+      ∙ turns i (decLt i last)
+      ∙ sym (rw (to-at counts s last i h) at (turned-at (m .kind) last w i h))))

@@ -1,4 +1,6 @@
 // The walker of a strip: the direction of each kind.
+pub mod check;
+mod directions;
 pub mod turning;
 
 // Sixteen directions, kind 1 first: true is backward. Kind 1 and unused kinds run forward.

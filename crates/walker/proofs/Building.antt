@@ -1,0 +1,89 @@
+-- Proofs. The walker while it is built: j kinds have their directions, and the parity of the reduced strip's number at j is known.
+use Prim.Native.Nat.{ℕ, suc, _+_, _%_, _≤_, _<_}
+use mathlib.Core.Path.{_≡_, refl, sym, ap, _∙_}
+use mathlib.Core.Bool.{Bool, true, false, not, _&&_, Bool·beq}
+use mathlib.Core.List.{List}
+use native.Mathlib.Numerals.{add-one}
+use native.Mathlib.Omega.{arith}
+use borrow.Author.Tests.{le-leb}
+use lib.Dec.{eqb}
+use lib.ListN.{length, getD, take, set}
+use Rattle.rules.specs.Stock.{sum, binom, IsStock, IsStrip}
+use Rattle.rules.specs.Book.{odd, reduced, backward}
+use Rattle.rules.proofs.Listed.{flip}
+use Rattle.rules.proofs.Snake.{numbered}
+use Rattle.rules.proofs.Books.{number′}
+use Rattle.rules.proofs.Strips.{number, strip-sum}
+use Rattle.rules.proofs.Index.{rests, index}
+use Rattle.rules.proofs.Prefixes.{OneMore, one-more, sum-take}
+use Rattle.rules.proofs.Parity.{odd-rest, odd-index, backward-number}
+use Rattle.walker.specs.declared.Walker.{Walker}
+use Rattle.walker.specs.Walkers.{walkerOf, allForward}
+use Rattle.walker.proofs.ByKind.{stored, walkerTo, walker-to, to-long, to-at, up-to-same}
+
+-- ---- the parity, with one kind more
+
+unlike-flip : (a b : Bool) → not (Bool·beq a b) ≡ flip b a
+unlike-flip false false = refl
+unlike-flip false true = refl
+unlike-flip true false = refl
+unlike-flip true true = refl
+
+pub odd-next : (before : Bool) (i n q : ℕ) → i < n → odd q ≡ before → not (Bool·beq (eqb (i % 2) 1) before) ≡ odd (numbered n q i)
+odd-next before i n q h e = rw (odd-rest i, ← e) (unlike-flip (odd i) (odd q) ∙ sym (odd-index n q i h))
+
+-- ---- the walker, with one kind more
+
+one-to : (counts s : List ℕ) (j : ℕ) → j < 16 → record { back = set (walkerTo counts s j .back) j (backward counts (suc j) s) } ≡ walkerTo counts s (suc j)
+one-to counts s j h = stored (walkerTo counts s j) (walkerTo counts s (suc j)) (to-long counts s j) (to-long counts s (suc j)) j _ h new old
+  where
+    new : backward counts (suc j) s ≡ getD (walkerTo counts s (suc j) .back) j false
+    new = sym (rw (le-leb (suc j) (suc j) (omega arith)) at (to-at counts s (suc j) j h))
+
+    old : (i : ℕ) → i < 16 → (i ≡ j → ⊥) → getD (walkerTo counts s j .back) i false ≡ getD (walkerTo counts s (suc j) .back) i false
+    old i l e = to-at counts s j i l ∙ ap (λ (b : Bool). b && backward counts (suc i) s) (up-to-same i j e) ∙ sym (to-at counts s (suc j) i l)
+
+-- ---- the loop
+
+pub strip-fits : (counts s : List ℕ) → IsStock counts → IsStrip counts s → length s ≤ 64
+strip-fits counts s stock strip = omega (arith, strip-sum counts s strip, stock .short)
+
+pub record Built (counts s : List ℕ) (w : Walker) (before : Bool) (below j : ℕ) : Type 0 where
+  pub done : j ≤ length counts
+  pub blocks : below ≡ sum (take j counts)
+  pub parity : odd (number (take j counts) (reduced j s)) ≡ before
+  pub so-far : w ≡ walkerTo counts s j
+
+pub start : (counts s : List ℕ) → Built counts s allForward false 0 0
+unfolding sum number number′ odd walkerTo
+start counts s = record { done = omega arith; blocks = refl; parity = refl; so-far = refl }
+
+module _ (counts s : List ℕ) (w : Walker) (before : Bool) (below j : ℕ) (b : Built counts s w before below j) where
+  module _ (stock : IsStock counts) (strip : IsStrip counts s) (h : j < length counts) where
+    more : OneMore counts s j (j + 1)
+    more = one-more counts s strip j h
+
+    pub reduced-fits : length (reduced (j + 1) s) ≤ 64
+    reduced-fits = omega (arith, more .letters, sum-take counts (j + 1), stock .short)
+
+    pub others : below ≡ rests (j + 1) (reduced (j + 1) s)
+    others = b .blocks ∙ sym (more .others)
+
+    stored-now : record { back = set (w .back) j before } ≡ walkerTo counts s (j + 1)
+    stored-now =
+        let e : before ≡ backward counts (suc j) s = sym (backward-number counts s strip j (omega arith) ∙ b .parity) in
+        rw (b .so-far, e, add-one j) (one-to counts s j (omega (arith, stock .few)))
+
+    pub on : (n place : ℕ) (next : Bool) → n ≡ length (reduced (j + 1) s) → place ≡ index (j + 1) (reduced (j + 1) s)
+        → ((patterns q : ℕ) → place < patterns → odd q ≡ before → next ≡ odd (numbered patterns q place)) → Built counts s (record { back = set (w .back) j before }) next n (j + 1)
+    on n place next n-is place-is next-is = record {
+      done = omega arith;
+      blocks = n-is ∙ more .letters;
+      parity = sym (next-is (binom (sum (take (j + 1) counts)) (sum (take j counts))) (number (take j counts) (reduced j s)) (rw place-is (more .within)) (b .parity) ∙ rw place-is (ap odd (more .next)));
+      so-far = stored-now;
+    }
+
+  pub end : length counts ≤ j → w ≡ walkerOf counts s
+  end h =
+      let e : j ≡ length counts = omega (arith, b .done) in
+      b .so-far ∙ ap (walkerTo counts s) e ∙ sym (walker-to counts s)

@@ -1,0 +1,112 @@
+-- Proofs. The smallest kind at which two walkers differ: a loop that looks for it, and that two walkers that differ nowhere are the same.
+use Prim.Native.Nat.{ℕ, suc, _+_, _≤_, _<_}
+use mathlib.Core.Path.{_≡_, refl, sym, ap, _∙_}
+use mathlib.Core.Bool.{Bool, true, false, not, Bool·beq}
+use mathlib.Core.List.{List, [], _∷_, _++_}
+use native.Mathlib.Numerals.{add-one}
+use native.Mathlib.Omega.{arith}
+use borrow.Author.Tests.{not-true, not-false}
+use lib.ListN.{length, getD, drop, drop-of-length-le}
+use lib.Seq.{drop-cons}
+use Rattle.rules.specs.Stock.{IsStock, IsStrip}
+use Rattle.rules.specs.Refusals.{fine, atPlace, firstOf, checkNos}
+use Rattle.rules.proofs.Refusals.{at-place, passed-first, passed-both}
+use Rattle.rules.proofs.Checks.{at-passed, passed-head, accepted-both}
+use Rattle.walker.specs.declared.Walker.{Walker}
+use Rattle.walker.specs.Walkers.{walkerOf, alike, differingFrom, walkerNo}
+use Rattle.walker.proofs.ByKind.{walker-to, to-long}
+
+alike-is : (a b : Bool) → alike a b ≡ Bool·beq a b
+alike-is false false = refl
+alike-is false true = refl
+alike-is true false = refl
+alike-is true true = refl
+
+module _ (a b : Bool) where
+  unlike : not (Bool·beq a b) ≡ true → alike a b ≡ false
+  unlike t = alike-is a b ∙ not-true (Bool·beq a b) t
+
+  like : not (Bool·beq a b) ≡ false → alike a b ≡ true
+  like t = alike-is a b ∙ not-false (Bool·beq a b) t
+
+-- ---- a loop that looks for it
+
+-- i kinds are passed, and the smallest kind at which the whole lists differ is that at which the rests do
+pub record Compared (d e : List Bool) (i : ℕ) : Type 0 where
+  pub passed : i ≤ 16
+  pub rest : differingFrom (i + 1) (drop i d) (drop i e) ≡ differingFrom 1 d e
+
+pub start : (d e : List Bool) → Compared d e 0
+start d e = record { passed = omega arith; rest = refl }
+
+module _ (d e : List Bool) (k : length d ≡ 16) (l : length e ≡ 16) (i : ℕ) (c : Compared d e i) where
+  module _ (h : i < 16) where
+    one : differingFrom (i + 1) (getD d i false ∷ drop (suc i) d) (getD e i false ∷ drop (suc i) e) ≡ differingFrom 1 d e
+    one = rw (drop-cons d i false (omega arith), drop-cons e i false (omega arith)) at (c .rest)
+
+    pub here : not (Bool·beq (getD d i false) (getD e i false)) ≡ true → i + 1 ≡ differingFrom 1 d e
+    unfolding differingFrom
+    here t = rw (unlike (getD d i false) (getD e i false) t) at one
+
+    pub on : not (Bool·beq (getD d i false) (getD e i false)) ≡ false → Compared d e (i + 1)
+    unfolding differingFrom
+    on t = record { passed = omega arith; rest = rw (add-one (i + 1), add-one i) (rw (like (getD d i false) (getD e i false) t, add-one i) at one) }
+
+  pub end : 16 ≤ i → 0 ≡ differingFrom 1 d e
+  unfolding differingFrom
+  end h = rw (drop-of-length-le d {i = i} (omega arith)) at (c .rest)
+
+-- ---- walkers that differ nowhere
+
+differ-nowhere : (j : ℕ) (d e : List Bool) → length d ≡ length e → differingFrom (suc j) d e ≡ 0 → d ≡ e
+unfolding differingFrom
+differ-nowhere j [] [] k h = refl
+differ-nowhere j [] (c ∷ e) k h = absurd (omega arith)
+differ-nowhere j (b ∷ d) [] k h = absurd (omega arith)
+differ-nowhere j (false ∷ d) (false ∷ e) k h = ap (λ (d : List Bool). false ∷ d) (differ-nowhere (suc j) d e (omega arith) h)
+differ-nowhere j (false ∷ d) (true ∷ e) k h = absurd (omega arith)
+differ-nowhere j (true ∷ d) (false ∷ e) k h = absurd (omega arith)
+differ-nowhere j (true ∷ d) (true ∷ e) k h = ap (λ (d : List Bool). true ∷ d) (differ-nowhere (suc j) d e (omega arith) h)
+
+differ-self : (j : ℕ) (d : List Bool) → differingFrom j d d ≡ 0
+unfolding differingFrom
+differ-self j [] = refl
+differ-self j (false ∷ d) = differ-self (suc j) d
+differ-self j (true ∷ d) = differ-self (suc j) d
+
+module _ (counts s : List ℕ) where
+  -- a walker that 10 does not refuse is the one that Open gives
+  pub walker-passed : (w : Walker) → length (w .back) ≡ 16 → walkerNo counts s w .0 ≡ 0 → w ≡ walkerOf counts s
+  unfolding walkerNo
+  walker-passed w l h =
+      let k : length (walkerOf counts s .back) ≡ 16 = rw (walker-to counts s) (to-long counts s (length counts)) in
+      ap (λ (d : List Bool). record { back = d }) (differ-nowhere 0 (w .back) (walkerOf counts s .back) (l ∙ sym k) (at-passed 9 _ h))
+
+  -- and that one is not refused
+  pub walker-accepted : walkerNo counts s (walkerOf counts s) ≡ fine
+  unfolding walkerNo
+  walker-accepted = rw (differ-self 1 (walkerOf counts s .back))
+
+-- a stock, a strip and a walker that pass 1 to 6 and 10
+pub accepted-walker : (counts s : List ℕ) (w : Walker) → length (w .back) ≡ 16 → firstOf (checkNos counts s ++ (walkerNo counts s w ∷ [])) .0 ≡ 0
+    → IsStock counts × IsStrip counts s × (w ≡ walkerOf counts s)
+accepted-walker counts s w l h =
+    let p = passed-both (checkNos counts s) (walkerNo counts s w ∷ []) h in
+    let b = accepted-both counts s (p .0) in
+    (b .0, b .1, walker-passed counts s w l (passed-head (walkerNo counts s w) [] (p .1) .0))
+
+-- ---- 10, after 1 to 6, as a check finds it
+
+module _ (counts s : List ℕ) (w right : Walker) (right-is : right ≡ walkerOf counts s) (p : ℕ) (p-is : p ≡ differingFrom 1 (w .back) (right .back)) (none-yet : firstOf (checkNos counts s) .0 ≡ 0) where
+  next : firstOf (checkNos counts s ++ (atPlace 10 p ∷ [])) ≡ firstOf (checkNos counts s ++ (walkerNo counts s w ∷ []))
+  unfolding walkerNo
+  next = rw (p-is, right-is)
+
+  pub walker-wrong : (p ≡ 0 → ⊥) → (10, p) ≡ firstOf (checkNos counts s ++ (walkerNo counts s w ∷ []))
+  walker-wrong h = sym (at-place 9 [] p h) ∙ sym (passed-first (checkNos counts s) (atPlace 10 p ∷ []) none-yet) ∙ next
+
+  pub walker-fine : p ≡ 0 → fine ≡ firstOf (checkNos counts s ++ (walkerNo counts s w ∷ []))
+  unfolding firstOf
+  walker-fine h =
+      let e : firstOf (atPlace 10 p ∷ []) ≡ fine = rw h in
+      sym e ∙ sym (passed-first (checkNos counts s) (atPlace 10 p ∷ []) none-yet) ∙ next
