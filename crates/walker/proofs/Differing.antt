@@ -9,11 +9,15 @@ use borrow.Author.Tests.{not-true, not-false}
 use lib.ListN.{length, getD, drop, drop-of-length-le}
 use lib.Seq.{drop-cons}
 use Rattle.rules.specs.Stock.{IsStock, IsStrip}
-use Rattle.rules.specs.Refusals.{fine, atPlace, firstOf, checkNos}
-use Rattle.rules.proofs.Refusals.{at-place, passed-first, passed-both}
+use Rattle.rules.specs.Refusals.{No, fine, atPlace, firstOf, checkNos}
+use Rattle.rules.proofs.Refusals.{at-place, refused-first, passed-first, passed-both, unless-passed}
 use Rattle.rules.proofs.Checks.{at-passed, passed-head, accepted-both}
+use Rattle.stock.specs.Refused.{refusal}
+use Rattle.stock.proofs.Tested.{passed, stopped}
 use Rattle.walker.specs.declared.Walker.{Walker}
-use Rattle.walker.specs.Walkers.{walkerOf, alike, differingFrom, walkerNo}
+use Rattle.walker.specs.declared.open.Opened.{Opened}
+use Rattle.walker.specs.Answers.{openAnswer}
+use Rattle.walker.specs.Walkers.{walkerOf, allForward, alike, differingFrom, walkerNo}
 use Rattle.walker.proofs.ByKind.{walker-to, to-long}
 
 alike-is : (a b : Bool) → alike a b ≡ Bool·beq a b
@@ -97,16 +101,33 @@ accepted-walker counts s w l h =
 
 -- ---- 10, after 1 to 6, as a check finds it
 
-module _ (counts s : List ℕ) (w right : Walker) (right-is : right ≡ walkerOf counts s) (p : ℕ) (p-is : p ≡ differingFrom 1 (w .back) (right .back)) (none-yet : firstOf (checkNos counts s) .0 ≡ 0) where
-  next : firstOf (checkNos counts s ++ (atPlace 10 p ∷ [])) ≡ firstOf (checkNos counts s ++ (walkerNo counts s w ∷ []))
-  unfolding walkerNo
-  next = rw (p-is, right-is)
+-- o is what Open answers, and p the smallest kind at which its walker and w differ
+module _ (counts s : List ℕ) (w : Walker) (o : Opened) (is : o ≡ openAnswer counts s) where
+  abbrev nos : List No
+  nos = checkNos counts s
 
-  pub walker-wrong : (p ≡ 0 → ⊥) → (10, p) ≡ firstOf (checkNos counts s ++ (walkerNo counts s w ∷ []))
-  walker-wrong h = sym (at-place 9 [] p h) ∙ sym (passed-first (checkNos counts s) (atPlace 10 p ∷ []) none-yet) ∙ next
+  opened-no : o .refusal ≡ refusal (firstOf nos)
+  unfolding openAnswer
+  opened-no = ap (λ (o : Opened). o .refusal) is
 
-  pub walker-fine : p ≡ 0 → fine ≡ firstOf (checkNos counts s ++ (walkerNo counts s w ∷ []))
-  unfolding firstOf
-  walker-fine h =
-      let e : firstOf (atPlace 10 p ∷ []) ≡ fine = rw h in
-      sym e ∙ sym (passed-first (checkNos counts s) (atPlace 10 p ∷ []) none-yet) ∙ next
+  pub open-refused : (o .refusal .no ≡ 0 → ⊥) → o .refusal ≡ refusal (firstOf (nos ++ (walkerNo counts s w ∷ [])))
+  open-refused h = opened-no ∙ ap refusal (sym (refused-first nos _ (stopped nos _ opened-no h)))
+
+  module _ (h : o .refusal .no ≡ 0) (p : ℕ) (p-is : p ≡ differingFrom 1 (w .back) (o .walker .back)) where
+    none-yet : firstOf nos .0 ≡ 0
+    none-yet = passed nos _ opened-no h
+
+    opened-walker : o .walker ≡ walkerOf counts s
+    unfolding openAnswer
+    opened-walker = ap (λ (o : Opened). o .walker) is ∙ unless-passed allForward (walkerOf counts s) (firstOf nos) none-yet
+
+    next : firstOf (atPlace 10 p ∷ []) ≡ firstOf (nos ++ (walkerNo counts s w ∷ []))
+    unfolding walkerNo
+    next = sym (passed-first nos (atPlace 10 p ∷ []) none-yet) ∙ rw (p-is, opened-walker)
+
+    pub walker-wrong : (p ≡ 0 → ⊥) → (10, p) ≡ firstOf (nos ++ (walkerNo counts s w ∷ []))
+    walker-wrong e = sym (at-place 9 [] p e) ∙ next
+
+    pub walker-fine : p ≡ 0 → fine ≡ firstOf (nos ++ (walkerNo counts s w ∷ []))
+    unfolding firstOf
+    walker-fine e = rw e at next

@@ -3,3 +3,4 @@ mod ByKind
 mod Building
 pub mod Differing
 pub mod Turns
+pub mod Theorems

@@ -1,9 +1,7 @@
 // Checking a stock, a strip and a walker: refusals 1 to 6, then 10.
 use crate::Walker;
-use crate::directions::walker_of;
-use choose::table;
+use crate::open::open;
 use stock::Refusal;
-use stock::check_strip;
 ghost use mathlib.Core.Path.{_≡_};
 ghost use mathlib.Core.List.{[], _∷_, _++_};
 ghost use Rattle.rules.specs.Refusals.{firstOf, checkNos};
@@ -30,13 +28,13 @@ fn wrong_kind(one: Walker, other: Walker) -> u64
 pub fn check_walker(stock: &[u16], strip: &[u8], w: Walker) -> Refusal
     ensures { λ r. ⌜ r ≡ refusal (firstOf (checkNos (now (stock .entry)) (now (strip .entry)) ++ (walkerNo (now (stock .entry)) (now (strip .entry)) w ∷ []))) ⌝ }
 {
-    let checked = check_strip(stock, strip);
+    let opened = open(stock, strip);
+    let checked = opened.refusal;
     let no = checked.no;
     if no != 0 {
         return checked;
     }
-    let rows = table();
-    let right = walker_of(&rows, stock, strip);
+    let right = opened.walker;
     let kind = wrong_kind(w, right);
     if kind != 0 {
         return Refusal {

@@ -1,6 +1,7 @@
 // The walker of a strip: the direction of each kind.
 pub mod check;
 mod directions;
+pub mod open;
 pub mod turning;
 
 // Sixteen directions, kind 1 first: true is backward. Kind 1 and unused kinds run forward.
