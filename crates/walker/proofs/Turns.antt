@@ -1,11 +1,10 @@
 -- Proofs. A walker with the directions of the kinds above one turned; and that the walker after a move is the walker before it, so turned.
-use Prim.Native.Nat.{ℕ, suc, _+_, _-_, _≤_, _<_}
+use Prim.Native.Nat.{ℕ, suc, _-_, _≤_, _<_}
 use mathlib.Core.Path.{_≡_, refl, sym, ap, _∙_}
 use mathlib.Core.Bool.{Bool, false, not, _&&_}
 use mathlib.Core.Option.{Option}
 use mathlib.Core.List.{List, reverse}
 use native.Mathlib.Decide.{decLt}
-use native.Mathlib.Numerals.{add-one}
 use native.Mathlib.Omega.{arith}
 use borrow.Author.Tests.{lt-ltb, le-ltb, le-leb, lt-leb}
 use lib.Dec.{ltb, leb}
@@ -18,7 +17,7 @@ use Rattle.rules.proofs.Directions.{kinds-above-turn}
 use Rattle.walker.specs.declared.Walker.{Walker}
 use Rattle.walker.specs.Walkers.{walkerOf}
 use Rattle.walker.specs.Turned.{turnedAt, turnedAbove}
-use Rattle.walker.proofs.ByKind.{at-kind, same-walker, stored, walkerTo, walker-to, to-long, to-at, up-to-same}
+use Rattle.walker.proofs.ByKind.{at-kind, same-walker, stored, walkerTo, walker-to, to-long, to-at}
 
 module _ (kind last : ℕ) (w : Walker) where
   long : length (turnedAbove kind last w .back) ≡ 16
@@ -41,26 +40,32 @@ module _ (kind last : ℕ) (w : Walker) where
       | no l ↦ rw (lt-leb (suc i) last (omega arith)) at turned-at
     ]
 
--- ---- a loop that turns them, one after the other
+-- ---- a loop that turns them, from the last one down
 
-module _ (kind : ℕ) (w : Walker) where
+module _ (last : ℕ) (w : Walker) where
   -- at first none is turned
-  pub turned-none : length (w .back) ≡ 16 → w ≡ turnedAbove kind kind w
-  turned-none l = same-walker w (turnedAbove kind kind w) l (long kind kind w) (λ i h. sym (stays kind kind w i h (λ m. m)))
+  pub turned-none : length (w .back) ≡ 16 → w ≡ turnedAbove last last w
+  turned-none l = same-walker w (turnedAbove last last w) l (long last last w) (λ i h. sym (stays last last w i h (λ m. m)))
 
-  -- one kind more
-  module _ (j : ℕ) (h : kind ≤ j) (l : j < 16) (v : Walker) (is : v ≡ turnedAbove kind j w) where
-    pub turned-one : record { back = set (v .back) j (not (getD (v .back) j false)) } ≡ turnedAbove kind (j + 1) w
-    turned-one = rw (is, add-one j) (stored (turnedAbove kind j w) (turnedAbove kind (suc j) w) (long kind j w) (long kind (suc j) w) j _ l new old)
+  -- kind j + 1 too
+  module _ (j above : ℕ) (one : suc j ≡ above) (h : above ≤ last) (l : last ≤ 16) (v : Walker) (is : v ≡ turnedAbove above last w) where
+    pub turned-one : record { back = set (v .back) j (not (getD (v .back) j false)) } ≡ turnedAbove j last w
+    turned-one = rw (is, ← one) (stored (turnedAbove (suc j) last w) (turnedAbove j last w) (long (suc j) last w) (long j last w) j _ (omega arith) new old)
       where
-        new : not (getD (turnedAbove kind j w .back) j false) ≡ getD (turnedAbove kind (suc j) w .back) j false
-        new = ap not (stays kind j w j l (λ m. omega arith)) ∙ sym (turned kind (suc j) w j l h (omega arith))
+        new : not (getD (turnedAbove (suc j) last w .back) j false) ≡ getD (turnedAbove j last w .back) j false
+        new = ap not (stays (suc j) last w j (omega arith) (λ m. omega arith)) ∙ sym (turned j last w j (omega arith) (omega arith) (omega arith))
 
-        old : (i : ℕ) → i < 16 → (i ≡ j → ⊥) → getD (turnedAbove kind j w .back) i false ≡ getD (turnedAbove kind (suc j) w .back) i false
+        same : (i : ℕ) → (i ≡ j → ⊥) → ltb (suc j) (suc i) ≡ ltb j (suc i)
+        same i e = elim (decLt j i) [
+          | yes m ↦ lt-ltb (suc j) (suc i) (omega arith) ∙ sym (lt-ltb j (suc i) (omega arith))
+          | no m ↦ le-ltb (suc j) (suc i) (omega arith) ∙ sym (le-ltb j (suc i) (omega arith))
+        ]
+
+        old : (i : ℕ) → i < 16 → (i ≡ j → ⊥) → getD (turnedAbove (suc j) last w .back) i false ≡ getD (turnedAbove j last w .back) i false
         old i k e =
-            turned-at kind j w i k
-            ∙ ap (λ (b : Bool). flip (b && ltb kind (suc i)) (getD (w .back) i false)) (up-to-same i j e)
-            ∙ sym (turned-at kind (suc j) w i k)
+            turned-at (suc j) last w i k
+            ∙ ap (λ (b : Bool). flip (leb (suc i) last && b) (getD (w .back) i false)) (same i e)
+            ∙ sym (turned-at j last w i k)
 
 -- ---- a move
 

@@ -10,11 +10,11 @@ pub fn turned_above(w: Walker, kind: usize, kinds: usize) -> Walker
     ensures { λ r. ⌜ r ≡ turnedAbove kind kinds w ⌝ }
 {
     let mut v = w;
-    let mut j = kind;
-    while j < kinds {
+    let mut j = kinds;
+    while kind < j {
+        j -= 1;
         let b = v.back[j];
         v.back[j] = !b;
-        j += 1;
     }
     v
 }
