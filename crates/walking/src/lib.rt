@@ -1,4 +1,6 @@
 // Walking: moving a strip on and back through its book.
+mod finding;
+
 use stock::Refusal;
 use walker::Walker;
 
