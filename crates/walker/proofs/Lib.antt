@@ -1,5 +1,5 @@
 -- Proofs: nobody needs to read these to know what holds.
-mod ByKind
+pub mod ByKind
 mod Building
 pub mod Differing
 pub mod Turns
