@@ -16,12 +16,21 @@ use Rattle.rules.proofs.Turned.{sum-next, turned-length}
 use Rattle.rules.proofs.Patterns.{IsWord, E-is-first, E-is-last}
 use Rattle.rules.proofs.Moves.{moveE, ResultE, E-move}
 use Rattle.rules.proofs.Books.{pattern, lay-back}
-use Rattle.rules.proofs.Walk.{Move, walk, heading, behind, orBehind, lay-first, lay-last}
-use Rattle.rules.proofs.Strips.{number, moveOf}
+use Rattle.rules.proofs.Exchange.{exchanged}
+use Rattle.rules.proofs.Walk.{Move, walk, heading, behind, orBehind, lay-first, lay-last, ResultB, walk-right}
+use Rattle.rules.proofs.Strips.{number, moveOf, to-strip}
 use Rattle.rules.proofs.Index.{rests}
 use Rattle.rules.proofs.Reduced.{reduced-without, prefix-strip, prefix-length, prefix-all}
 use Rattle.rules.proofs.Places.{place-number}
 use Rattle.rules.proofs.Prefixes.{prefix-word, sum-take}
+
+-- a move's places stand in the strip, smaller first
+pub move-inside : (d : Bool) (counts s : List ℕ) → IsStrip counts s → (m : Move) → moveOf d counts s ≡ some m → (m .p < m .q) × (m .q < length s)
+unfolding moveOf
+move-inside d counts s h m e =
+    let r : ResultB d (reverse counts) s (some m) = rw e at (walk-right d (reverse counts) s (to-strip counts s h)) in
+    let x = exchanged 0 (r .swapped .2) in
+    (x .order, x .inside)
 
 -- a move of the first kinds, in the whole strip: n kinds more stay where they are, and lo blocks stand in front
 abbrev pub raised : ℕ → ℕ → Option Move → Option Move
