@@ -18,7 +18,7 @@ use Rattle.pattern.specs.declared.moves.Step.{Step}
 use Rattle.pattern.specs.Steps.{step}
 use Rattle.walker.specs.declared.Walker.{Walker}
 use Rattle.walker.proofs.ByKind.{walker-at}
-use Rattle.walking.specs.Finding.{Checked, found}
+use Rattle.walking.specs.Checked.{Checked, found}
 
 -- a step that was found, and one that was not
 step-some : (o : Option (ℕ × ℕ)) (m : Step) → m ≡ step o → m .found ≡ true → o ≡ some (m .low, m .high)

@@ -11,7 +11,7 @@ ghost use Rattle.rules.proofs.Index.{rests};
 ghost use Rattle.rules.proofs.Moves.{moveE};
 ghost use Rattle.rules.proofs.Strips.{moveOf};
 ghost use Rattle.pattern.specs.Steps.{step};
-ghost use Rattle.walking.specs.Finding.{Checked, found};
+ghost use Rattle.walking.specs.Checked.{Checked, found};
 
 // The kind that moves, and the two places from 0, smaller first. No move: kind 0.
 pub struct Found {

@@ -1,5 +1,6 @@
 // Walking: moving a strip on and back through its book.
 mod finding;
+mod stepping;
 
 use stock::Refusal;
 use walker::Walker;

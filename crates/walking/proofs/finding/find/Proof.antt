@@ -4,7 +4,7 @@ use mathlib.Core.Path.{_≡_, sym, ap}
 use native.Mathlib.Omega.{arith}
 use lib.ListN.{length}
 use Rattle.rules.proofs.Descent.{Descent, start, end}
-use Rattle.walking.specs.Finding.{found}
+use Rattle.walking.specs.Checked.{found}
 use Rattle.walking.proofs.OneKind.{Turn, heading, turn}
 use Rattle.walking.proofs.finding.find.Statement.{statement}
 use Rattle.walking.proofs.finding.find.Tie as tie

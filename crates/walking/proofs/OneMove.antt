@@ -1,0 +1,83 @@
+-- Proofs. What was found, tested by its kind: no move, and what the step then answers; or a move, whose exchange gives the strip beside.
+use Prim.Native.Nat.{ℕ, suc, _+_, _-_, _≤_, _<_}
+use mathlib.Core.Path.{_≡_, refl, sym, ap, _∙_}
+use mathlib.Core.Bool.{Bool}
+use mathlib.Core.Option.{Option, none, some}
+use mathlib.Core.List.{List, [], _∷_, reverse}
+use native.Mathlib.Omega.{arith}
+use lib.ListN.{length, getD, length-reverse}
+use Rattle.rules.specs.Stock.{IsStrip}
+use Rattle.rules.specs.Neighbours.{places}
+use Rattle.rules.specs.Refusals.{fine}
+use Rattle.rules.proofs.Exchange.{swap, Exchanged, exchanged}
+use Rattle.rules.proofs.Walk.{Move, Leads}
+use Rattle.rules.proofs.Strips.{moveOf, strip-sum}
+use Rattle.rules.proofs.Neighbours.{swapped-places}
+use Rattle.walker.specs.declared.Walker.{Walker}
+use Rattle.walker.specs.Walkers.{walkerOf}
+use Rattle.walker.specs.Turned.{turnedAbove}
+use Rattle.walker.proofs.Turns.{move-turns}
+use Rattle.walking.specs.declared.finding.Found.{Found}
+use Rattle.walking.specs.Answers.{beside, endNo, asMoved}
+use Rattle.walking.specs.Checked.{Checked, found, stepAnswer, stepStrip}
+use Rattle.walking.proofs.Beside.{Outcome, outcome}
+
+-- the move of kind j that exchanges places low and high, from 0, and what it leads to
+pub record Makes (d : Bool) (counts s : List ℕ) (j low high : ℕ) : Type 0 where
+  pub some-kind : 0 < j
+  pub kinds : j ≤ length counts
+  pub order : low < high
+  pub inside : high < length s
+  pub allowed : endNo d counts s ≡ fine
+  pub own : IsStrip counts (beside d counts s)
+  pub strip : swap 0 s low high ≡ beside d counts s
+  pub shown : places s (beside d counts s) ≡ (low + 1) ∷ (high + 1) ∷ []
+  pub walker : turnedAbove j (length counts) (walkerOf counts s) ≡ walkerOf counts (beside d counts s)
+
+module _ (d : Bool) (counts s : List ℕ) (h : IsStrip counts s) where
+  makes : (o : Option Move) (m : Move) → o ≡ some m → Outcome d counts s o → Makes d counts s (length counts - m .skip) (m .p) (m .q)
+  makes none m e r = let z : _≡_ {A = ℕ} 0 1 = cc in absurd (omega arith)
+  makes (some o) m e (allowed, own, l) =
+      let is : l .move ≡ m = cc (l .is) in
+      let x = exchanged 0 (l .swapped .2) in
+      let j : l .kind ≡ length counts - l .move .skip = omega (arith, l .of, length-reverse counts) in
+      let t : Makes d counts s (l .kind) (l .move .p) (l .move .q) = record {
+        some-kind = omega (arith, l .swapped .1);
+        kinds = omega (arith, l .of, length-reverse counts);
+        order = x .order;
+        inside = x .inside;
+        allowed = allowed;
+        own = own;
+        strip = sym (x .swapped);
+        shown = swapped-places (l .kind) (l .move .p) (l .move .q) s (beside d counts s) (l .swapped);
+        walker = sym (move-turns counts s (beside d counts s) h own (some o) l);
+      } in
+      rw is at (rw j at t)
+
+  tells-none : (o : Option Move) (m : Found) → m ≡ found (length counts) o → Outcome d counts s o → m .kind ≡ 0 → endNo d counts s ≡ (9, 0)
+  tells-none none m e r z = r
+  tells-none (some o) m e r z = absurd (omega (arith, makes (some o) o refl r .some-kind, ap (λ (m : Found). m .kind) e))
+
+  tells-some : (o : Option Move) (m : Found) → m ≡ found (length counts) o → Outcome d counts s o → (m .kind ≡ 0 → ⊥) → Makes d counts s (m .kind) (m .low) (m .high)
+  tells-some none m e r z = absurd (z (ap (λ (m : Found). m .kind) e))
+  tells-some (some o) m e r z = rw e (makes (some o) o refl r)
+
+  -- what was found, tested by its kind
+  module _ (m : Found) (is : m ≡ found (length counts) (moveOf d counts s)) where
+    pub found-none : m .kind ≡ 0 → endNo d counts s ≡ (9, 0)
+    found-none = tells-none (moveOf d counts s) m is (outcome counts s h d)
+
+    pub found-some : (m .kind ≡ 0 → ⊥) → Makes d counts s (m .kind) (m .low) (m .high)
+    found-some = tells-some (moveOf d counts s) m is (outcome counts s h d)
+
+-- ---- what the step answers
+
+module _ (d : Bool) (counts s : List ℕ) (w : Walker) where
+  pub stays : endNo d counts s ≡ (9, 0) → (asMoved (9, 0) [] w ≡ stepAnswer d counts s w) × (s ≡ stepStrip d counts s)
+  unfolding stepAnswer stepStrip
+  stays e = rw e (refl, refl)
+
+  pub moves : Checked counts s w → (j low high : ℕ) (v : Walker) → Makes d counts s j low high → v ≡ turnedAbove j (length counts) w
+      → (asMoved fine ((low + 1) ∷ (high + 1) ∷ []) v ≡ stepAnswer d counts s w) × (swap 0 s low high ≡ stepStrip d counts s)
+  unfolding stepAnswer stepStrip
+  moves c j low high v m e = rw (m .allowed, m .shown, e, c .walker) (ap (asMoved fine ((low + 1) ∷ (high + 1) ∷ [])) (m .walker), m .strip)

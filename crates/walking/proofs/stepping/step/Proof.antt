@@ -1,0 +1,56 @@
+-- `walking::stepping::step` meets its contract: where no kind moves, refusal 9; else the exchange and the turned walker.
+use Prim.Native.Nat.{_≤_}
+use native.Mathlib.Omega.{arith}
+use borrow.Author.Needs.{needs}
+use lib.ListN.{length, length-set}
+use Rattle.rules.proofs.Strips.{strip-sum}
+use Rattle.walking.proofs.OneMove.{Makes, found-none, found-some, stays, moves}
+use Rattle.walking.proofs.stepping.step.Statement.{statement}
+use Rattle.walking.proofs.stepping.step.Tie as tie
+
+returns : tie.Need-returns
+returns c =
+    let b = c .before .before .before .before .before in
+    stays (b .args .back) _ _ _ (found-none (b .args .back) _ _ (b .pre .strip) _ (c .before .find .ensures) (c .if1 .taken))
+
+-- the move that was found, and that its places are numbers of a byte
+move : (c : tie.Else1) → let a = c .before .before .before .before .before .args in let m = c .before .find .result in
+    Makes (a .back) (a .stock .now) (a .strip .now) (m .kind) (m .low) (m .high)
+move c =
+    let b = c .before .before .before .before .before in
+    found-some (b .args .back) _ _ (b .pre .strip) _ (c .before .find .ensures) (c .if1 .left)
+
+short : (c : tie.Else1) → length (c .before .before .before .before .before .args .strip .now) ≤ 64
+short c =
+    let b = c .before .before .before .before .before in
+    omega (arith, strip-sum (b .args .stock .now) (b .args .strip .now) (b .pre .strip), b .pre .stock .short)
+
+turned-above-requires : tie.Need-turned-above-requires
+turned-above-requires c κs =
+    let e = c .before .before in
+    (move e .kinds, e .before .before .before .before .before .pre .stock .few)
+
+returns-2 : tie.Need-returns-2
+returns-2 c =
+    let e = c .before .before .before in
+    let b = e .before .before .before .before .before in
+    moves (b .args .back) _ _ _ (b .pre) _ _ _ _ (move e) (c .turned-above .ensures)
+
+pub step-spec : {M : Type 1} → statement M
+step-spec =
+    tie.close
+    (tie.spec
+    (λ c κs. c .before .before .before .pre)
+    (λ c. search needs)
+    returns
+    (λ c. omega (arith, move (c .before) .order, move (c .before) .inside))
+    (λ c. move (c .before .before) .inside)
+    (λ c. omega (arith, move (c .before .before) .order, move (c .before .before) .inside))
+    (λ c. simp length-set (move (c .before .before) .inside))
+    turned-above-requires
+    (λ c. let e = c .before .before .before in omega (arith, move e .order, move e .inside, short e))
+    (λ c. let e = c .before .before .before in omega (arith, move e .order, move e .inside, short e))
+    (λ c. let e = c .before .before .before in omega (arith, move e .inside, short e))
+    (λ c. let e = c .before .before .before in omega (arith, move e .inside, short e))
+    (λ c. simp length-set)
+    returns-2)

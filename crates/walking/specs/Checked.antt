@@ -1,0 +1,36 @@
+-- What the private functions promise of a strip that is checked. No open call's contract cites it, so nothing here is to be believed.
+use Prim.Native.Nat.{ℕ, _-_}
+use mathlib.Core.Path.{_≡_}
+use mathlib.Core.Bool.{Bool}
+use mathlib.Core.Option.{Option, none, some}
+use mathlib.Core.List.{List, []}
+use Rattle.rules.specs.Stock.{IsStock, IsStrip}
+use Rattle.rules.specs.Neighbours.{places}
+use Rattle.rules.specs.Refusals.{unless}
+use Rattle.rules.proofs.Walk.{Move}
+use Rattle.walker.specs.declared.Walker.{Walker}
+use Rattle.walker.specs.Walkers.{walkerOf}
+use Rattle.walking.specs.declared.Moved.{Moved}
+use Rattle.walking.specs.declared.finding.Found.{Found}
+use Rattle.walking.specs.Answers.{beside, endNo, asMoved}
+
+-- an accepted stock, a strip of it, and the walker of that strip
+pub record Checked (counts s : List ℕ) (w : Walker) : Type 0 where
+  pub stock : IsStock counts
+  pub strip : IsStrip counts s
+  pub walker : w ≡ walkerOf counts s
+
+-- a move of k kinds: the kind that moves and the two places, from 0, smaller first. Where there is no move, all 0
+abbrev pub found : ℕ → Option Move → Found
+found k none = record { kind = 0; low = 0; high = 0 }
+found k (some m) = record { kind = k - m .skip; low = m .p; high = m .q }
+
+-- a move on, or at true back, that only refusal 9 can refuse: its answer, and the strip that it leaves
+unfoldable pub stepAnswer : Bool → List ℕ → List ℕ → Walker → Moved
+stepAnswer back counts s w =
+    let r = endNo back counts s in
+    let t = beside back counts s in
+    asMoved r (unless r [] (places s t)) (unless r w (walkerOf counts t))
+
+unfoldable pub stepStrip : Bool → List ℕ → List ℕ → List ℕ
+stepStrip back counts s = unless (endNo back counts s) s (beside back counts s)
