@@ -1,4 +1,6 @@
 -- Proofs: nobody needs to read these to know what holds.
 mod OneKind
 mod Beside
-mod OneMove
+pub mod OneMove
+pub mod Onward
+pub mod Stepped

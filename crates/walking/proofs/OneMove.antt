@@ -35,7 +35,7 @@ pub record Makes (d : Bool) (counts s : List ℕ) (j low high : ℕ) : Type 0 wh
   pub walker : turnedAbove j (length counts) (walkerOf counts s) ≡ walkerOf counts (beside d counts s)
 
 module _ (d : Bool) (counts s : List ℕ) (h : IsStrip counts s) where
-  makes : (o : Option Move) (m : Move) → o ≡ some m → Outcome d counts s o → Makes d counts s (length counts - m .skip) (m .p) (m .q)
+  pub makes : (o : Option Move) (m : Move) → o ≡ some m → Outcome d counts s o → Makes d counts s (length counts - m .skip) (m .p) (m .q)
   makes none m e r = let z : _≡_ {A = ℕ} 0 1 = cc in absurd (omega arith)
   makes (some o) m e (allowed, own, l) =
       let is : l .move ≡ m = cc (l .is) in

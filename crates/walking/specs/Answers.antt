@@ -1,9 +1,9 @@
--- TO BE BELIEVED. What Forward, Back and Run answer, by the book and the table of refusals, and what they leave in everything lent.
-use Prim.Native.Nat.{ℕ, zero, suc, min, _+_, _-_, _*_, _/_}
+-- TO BE BELIEVED. What Forward and Back answer, by the book and the table of refusals, and what they leave in the lent strip.
+use Prim.Native.Nat.{ℕ, _+_, _-_}
 use mathlib.Core.Bool.{Bool, true, false}
 use mathlib.Core.List.{List, [], _∷_, _++_}
 use lib.Dec.{eqb}
-use lib.ListN.{length, getD, drop}
+use lib.ListN.{getD}
 use Rattle.rules.specs.Stock.{total}
 use Rattle.rules.specs.Book.{book, placeIn}
 use Rattle.rules.specs.Neighbours.{places}
@@ -12,7 +12,6 @@ use Rattle.stock.specs.Refused.{refusal}
 use Rattle.walker.specs.declared.Walker.{Walker}
 use Rattle.walker.specs.Walkers.{walkerOf, walkerNo}
 use Rattle.walking.specs.declared.Moved.{Moved}
-use Rattle.walking.specs.declared.Ran.{Ran}
 
 -- the strip of the book that is m numbers further on
 unfoldable pub onward : List ℕ → List ℕ → ℕ → List ℕ
@@ -51,36 +50,3 @@ moveAnswer back counts s w =
 -- the strip that is left in the lent one
 unfoldable pub moveStrip : Bool → List ℕ → List ℕ → Walker → List ℕ
 moveStrip back counts s w = unless (firstOf (moveNos back counts s w)) s (beside back counts s)
-
--- ---- Run: refusals 1 to 6, then 10
-
-unfoldable pub runNos : List ℕ → List ℕ → Walker → List No
-runNos counts s w = checkNos counts s ++ (walkerNo counts s w ∷ [])
-
--- the moves that a list of so many bytes has room for, or those that are left, if fewer
-unfoldable pub runMoves : List ℕ → List ℕ → List ℕ → ℕ
-runMoves counts s list = min (length list / 2) (left counts s)
-
-abbrev pub asRan : No → ℕ → Bool → Walker → Ran
-asRan r m last w = record { refusal = refusal r; moves = m; last = last; walker = w }
-
--- the moves made, whether the strip then is the last one, and its walker; refused, 0, no, and the walker that was lent
-unfoldable pub runAnswer : List ℕ → List ℕ → Walker → List ℕ → Ran
-runAnswer counts s w list =
-    let r = firstOf (runNos counts s w) in
-    let m = runMoves counts s list in
-    asRan r (unless r 0 m) (unless r false (eqb m (left counts s))) (unless r w (walkerOf counts (onward counts s m)))
-
--- the strip that is left in the lent one
-unfoldable pub runStrip : List ℕ → List ℕ → Walker → List ℕ → List ℕ
-runStrip counts s w list = unless (firstOf (runNos counts s w)) s (onward counts s (runMoves counts s list))
-
--- the places of m moves on from a strip, two a move, smaller first
-unfoldable pub movesFrom : List ℕ → List ℕ → ℕ → List ℕ
-unfolding onward
-movesFrom counts s zero = []
-movesFrom counts s (suc m) = movesFrom counts s m ++ places (onward counts s m) (onward counts s (suc m))
-
--- the list that is left in the lent one: later bytes stay
-unfoldable pub runList : List ℕ → List ℕ → Walker → List ℕ → List ℕ
-runList counts s w list = let m = runMoves counts s list in unless (firstOf (runNos counts s w)) list (movesFrom counts s m ++ drop (2 * m) list)

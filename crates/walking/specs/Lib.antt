@@ -1,3 +1,3 @@
--- TO BE BELIEVED: what the calls that walk answer, and what they leave in the lent strip and list.
+-- What Forward and Back answer (to be believed), and what the private functions promise.
 pub mod Answers
 pub mod Checked

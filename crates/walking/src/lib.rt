@@ -1,6 +1,6 @@
 // Walking: moving a strip on and back through its book.
-mod finding;
-mod stepping;
+pub mod finding;
+pub mod stepping;
 
 use stock::Refusal;
 use walker::Walker;
@@ -11,14 +11,5 @@ pub struct Moved {
     pub refusal: Refusal,
     pub low: u8,
     pub high: u8,
-    pub walker: Walker,
-}
-
-// What Run answers.
-#[repr(C)]
-pub struct Ran {
-    pub refusal: Refusal,
-    pub moves: u64,
-    pub last: bool,
     pub walker: Walker,
 }
