@@ -17,7 +17,7 @@ use Rattle.rules.proofs.Descent.{Descent, move-inside, others, fits, short, fou
 use Rattle.pattern.specs.declared.moves.Step.{Step}
 use Rattle.pattern.specs.Steps.{step}
 use Rattle.walker.specs.declared.Walker.{Walker}
-use Rattle.walker.proofs.ByKind.{walker-at}
+use Rattle.walker.proofs.ByKind.{walker-to, to-at}
 use Rattle.walking.specs.Checked.{Checked, found}
 
 -- a step that was found, and one that was not
@@ -33,7 +33,7 @@ step-none (some pq) m e f = let z : _≡_ {A = ℕ} 0 1 = cc (ap (λ (m : Step).
 direction-at : (counts s : List ℕ) (w : Walker) → Checked counts s w → (i : ℕ) → i < length counts → getD (w .back) i false ≡ backward counts (suc i) s
 direction-at counts s w v i l =
     let few = v .stock .few in
-    rw (v .walker) (rw (le-leb (suc i) (length counts) l) at (walker-at counts s i (omega arith)))
+    rw (v .walker, walker-to counts s) (rw (le-leb (suc i) (length counts) l) at (to-at counts s (length counts) i (omega arith)))
 
 differs : (b d : Bool) → not (Bool·beq b d) ≡ flip b d
 differs false false = refl

@@ -1,5 +1,8 @@
 // Walking: moving a strip on and back through its book.
+pub mod back;
 pub mod finding;
+pub mod forward;
+mod moving;
 pub mod stepping;
 
 use stock::Refusal;
