@@ -10,7 +10,7 @@ use Rattle.stock.specs.Refused.{refusal}
 use Rattle.walker.specs.declared.Walker.{Walker}
 use Rattle.walker.specs.Walkers.{walkerOf, walkerNo}
 use Rattle.walking.specs.Answers.{onward, left}
-use Rattle.running.specs.declared.Ran.{Ran}
+use Rattle.running.specs.declared.run.Ran.{Ran}
 
 -- refusals 1 to 6, then 10
 unfoldable pub runNos : List ℕ → List ℕ → Walker → List No

@@ -1,2 +1,3 @@
--- TO BE BELIEVED: what Run answers, and what it leaves in the lent strip and list.
+-- What Run answers, and what it leaves in the lent strip and list (to be believed), and what its private loop promises.
 pub mod Answers
+pub mod Made

@@ -1,0 +1,54 @@
+// Run: the strip moves on until the lent list has no room left or the last strip is reached.
+use stock::Refusal;
+use walker::Walker;
+use walker::check::check_walker;
+use walking::finding::find;
+use walking::stepping::step;
+ghost use mathlib.Core.Path.{_≡_};
+ghost use Rattle.walking.specs.Checked.{Checked};
+ghost use Rattle.running.specs.Answers.{runAnswer, runStrip, runList};
+ghost use Rattle.running.specs.Made.{Made};
+
+// What Run answers.
+#[repr(C)]
+pub struct Ran {
+    pub refusal: Refusal,
+    pub moves: u64,
+    pub last: bool,
+    pub walker: Walker,
+}
+
+// Moves a checked strip on and lists the places, two a move.
+fn run_on(stock: &[u16], strip: &mut [u8], walker: Walker, list: &mut [u8]) -> Ran
+    requires { ⌜ Checked (now stock) (now strip) walker ⌝ }
+    ensures { λ r. ⌜ Made (now (stock .entry)) (now (strip .entry)) (now (list .entry)) r (now (strip .exit)) (now (list .exit)) ⌝ }
+{
+    let room = list.len() / 2;
+    let mut walker = walker;
+    let mut moves: usize = 0;
+    while moves < room {
+        let m = step(stock, strip, walker, false);
+        let refusal = m.refusal;
+        let no = refusal.no;
+        if no != 0 {
+            return Ran {
+                refusal: Refusal { no: 0, place: 0 },
+                moves: moves as u64,
+                last: true,
+                walker,
+            };
+        }
+        list[2 * moves] = m.low;
+        list[2 * moves + 1] = m.high;
+        let next = m.walker;
+        walker = next;
+        moves += 1;
+    }
+    let m = find(stock, strip, walker, false);
+    Ran {
+        refusal: Refusal { no: 0, place: 0 },
+        moves: moves as u64,
+        last: m.kind == 0,
+        walker,
+    }
+}
