@@ -1,2 +1,3 @@
 -- Proofs: nobody needs to read these to know what holds.
 mod Running
+mod Refused

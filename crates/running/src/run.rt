@@ -52,3 +52,20 @@ fn run_on(stock: &[u16], strip: &mut [u8], walker: Walker, list: &mut [u8]) -> R
         walker,
     }
 }
+
+// The input is checked once; after that the strip only moves.
+pub fn run(stock: &[u16], strip: &mut [u8], walker: Walker, list: &mut [u8]) -> Ran
+    ensures { λ r. ⌜ (r ≡ runAnswer (now (stock .entry)) (now (strip .entry)) walker (now (list .entry))) × (now (strip .exit) ≡ runStrip (now (stock .entry)) (now (strip .entry)) walker (now (list .entry))) × (now (list .exit) ≡ runList (now (stock .entry)) (now (strip .entry)) walker (now (list .entry))) ⌝ }
+{
+    let refusal = check_walker(stock, strip, walker);
+    let no = refusal.no;
+    if no != 0 {
+        return Ran {
+            refusal,
+            moves: 0,
+            last: false,
+            walker,
+        };
+    }
+    run_on(stock, strip, walker, list)
+}

@@ -32,6 +32,12 @@ unfolding endNo
 end-row false counts s = one-row 8 (eqb (left counts s) 0)
 end-row true counts s = one-row 8 (eqb (placeIn (book counts) s) 0)
 
+-- what none of 1 to 6 and 10 refuses
+pub checked : (counts s : List ℕ) (w : Walker) (r : Refusal) → r ≡ refusal (firstOf (firstNos counts s w)) → length (w .back) ≡ 16 → r .no ≡ 0 → Checked counts s w
+checked counts s w r is l h =
+    let b = accepted-walker counts s w l (passed (firstNos counts s w) r is h) in
+    record { stock = b .0; strip = b .1; walker = b .2 }
+
 module _ (d : Bool) (counts s : List ℕ) (w : Walker) (r : Refusal) (is : r ≡ refusal (firstOf (firstNos counts s w))) where
   rows : moveNos d counts s w ≡ firstNos counts s w ++ (endNo d counts s ∷ [])
   unfolding moveNos
@@ -47,12 +53,7 @@ module _ (d : Bool) (counts s : List ℕ) (w : Walker) (r : Refusal) (is : r ≡
       rw (is, e, unless-refused {A = List ℕ} [] _ (firstOf a) k)
       (ap (asMoved (firstOf a) []) (sym (unless-refused w _ (firstOf a) k)), sym (unless-refused s (beside d counts s) (firstOf a) k))
 
-  -- not refused before the step
-  pub checked : length (w .back) ≡ 16 → r .no ≡ 0 → Checked counts s w
-  checked l h =
-      let b = accepted-walker counts s w l (passed (firstNos counts s w) r is h) in
-      record { stock = b .0; strip = b .1; walker = b .2 }
-
+  -- or not, and the step decides
   pub decided : (m : Moved) (t : List ℕ) → (m ≡ stepAnswer d counts s w) × (t ≡ stepStrip d counts s) → r .no ≡ 0 → (m ≡ moveAnswer d counts s w) × (t ≡ moveStrip d counts s w)
   unfolding moveAnswer moveStrip stepAnswer stepStrip
   decided m t step h =

@@ -4,4 +4,4 @@ mod Beside
 pub mod OneMove
 pub mod Onward
 pub mod Stepped
-mod Called
+pub mod Called

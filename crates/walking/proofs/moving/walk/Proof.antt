@@ -12,7 +12,7 @@ returns c =
 step-requires : tie.Need-step-requires
 step-requires c κs =
     let b = c .before in
-    checked (b .before .before .before .before .before .args .back) _ _ _ _ (b .before .check-walker .ensures) (search needs) (b .if1 .left)
+    checked _ _ _ _ (b .before .check-walker .ensures) (search needs) (b .if1 .left)
 
 returns-2 : tie.Need-returns-2
 returns-2 c =
