@@ -2,7 +2,7 @@
 pub mod back;
 pub mod finding;
 pub mod forward;
-mod moving;
+pub mod moving;
 pub mod stepping;
 
 use stock::Refusal;
