@@ -5,3 +5,5 @@ pub mod OneMove
 pub mod Onward
 pub mod Stepped
 pub mod Called
+pub mod Right
+pub mod Theorems

@@ -7,12 +7,12 @@ use mathlib.Core.List.{List, [], _∷_, reverse}
 use native.Mathlib.Omega.{arith}
 use lib.ListN.{length, getD, length-reverse}
 use Rattle.rules.specs.Stock.{IsStrip}
-use Rattle.rules.specs.Neighbours.{places}
-use Rattle.rules.specs.Refusals.{fine}
+use Rattle.rules.specs.Neighbours.{Neighbours, places}
+use Rattle.rules.specs.Refusals.{No, fine}
 use Rattle.rules.proofs.Exchange.{swap, Exchanged, exchanged}
 use Rattle.rules.proofs.Walk.{Move, Leads}
 use Rattle.rules.proofs.Strips.{moveOf, strip-sum}
-use Rattle.rules.proofs.Neighbours.{swapped-places}
+use Rattle.rules.proofs.Neighbours.{swapped-places, swapped-neighbours}
 use Rattle.walker.specs.declared.Walker.{Walker}
 use Rattle.walker.specs.Walkers.{walkerOf}
 use Rattle.walker.specs.Turned.{turnedAbove}
@@ -30,12 +30,13 @@ pub record Makes (d : Bool) (counts s : List ℕ) (j low high : ℕ) : Type 0 wh
   pub inside : high < length s
   pub allowed : endNo d counts s ≡ fine
   pub own : IsStrip counts (beside d counts s)
+  pub exchanged : Neighbours s (beside d counts s)
   pub strip : swap 0 s low high ≡ beside d counts s
   pub shown : places s (beside d counts s) ≡ (low + 1) ∷ (high + 1) ∷ []
   pub walker : turnedAbove j (length counts) (walkerOf counts s) ≡ walkerOf counts (beside d counts s)
 
 module _ (d : Bool) (counts s : List ℕ) (h : IsStrip counts s) where
-  pub makes : (o : Option Move) (m : Move) → o ≡ some m → Outcome d counts s o → Makes d counts s (length counts - m .skip) (m .p) (m .q)
+  makes : (o : Option Move) (m : Move) → o ≡ some m → Outcome d counts s o → Makes d counts s (length counts - m .skip) (m .p) (m .q)
   makes none m e r = let z : _≡_ {A = ℕ} 0 1 = cc in absurd (omega arith)
   makes (some o) m e (allowed, own, l) =
       let is : l .move ≡ m = cc (l .is) in
@@ -48,6 +49,7 @@ module _ (d : Bool) (counts s : List ℕ) (h : IsStrip counts s) where
         inside = x .inside;
         allowed = allowed;
         own = own;
+        exchanged = swapped-neighbours (l .kind) (l .move .p) (l .move .q) s (beside d counts s) (l .swapped);
         strip = sym (x .swapped);
         shown = swapped-places (l .kind) (l .move .p) (l .move .q) s (beside d counts s) (l .swapped);
         walker = sym (move-turns counts s (beside d counts s) h own (some o) l);
@@ -61,6 +63,14 @@ module _ (d : Bool) (counts s : List ℕ) (h : IsStrip counts s) where
   tells-some : (o : Option Move) (m : Found) → m ≡ found (length counts) o → Outcome d counts s o → (m .kind ≡ 0 → ⊥) → Makes d counts s (m .kind) (m .low) (m .high)
   tells-some none m e r z = absurd (z (ap (λ (m : Found). m .kind) e))
   tells-some (some o) m e r z = rw e (makes (some o) o refl r)
+
+  -- where 9 does not refuse there is a move
+  makes-some : (o : Option Move) → Outcome d counts s o → endNo d counts s ≡ fine → (m : Move) × Makes d counts s (length counts - m .skip) (m .p) (m .q)
+  makes-some none r e = absurd (omega (arith, ap (λ (r : No). r .0) (sym r ∙ e)))
+  makes-some (some o) r e = (o, makes (some o) o refl r)
+
+  pub made : endNo d counts s ≡ fine → (m : Move) × Makes d counts s (length counts - m .skip) (m .p) (m .q)
+  made = makes-some (moveOf d counts s) (outcome counts s h d)
 
   -- what was found, tested by its kind
   module _ (m : Found) (is : m ≡ found (length counts) (moveOf d counts s)) where

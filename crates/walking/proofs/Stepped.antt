@@ -2,23 +2,18 @@
 use Prim.Native.Nat.{ℕ}
 use mathlib.Core.Path.{_≡_, refl, sym, ap, _∙_}
 use mathlib.Core.Bool.{Bool, true, false}
-use mathlib.Core.Option.{Option, none, some}
 use mathlib.Core.List.{List, [], _∷_}
-use native.Mathlib.Omega.{arith}
 use lib.Dec.{eqb}
 use Rattle.rules.specs.Stock.{IsStrip}
 use Rattle.rules.specs.Book.{book, placeIn}
 use Rattle.rules.specs.Neighbours.{places}
 use Rattle.rules.specs.Refusals.{No, fine, when}
-use Rattle.rules.proofs.Walk.{Move}
-use Rattle.rules.proofs.Strips.{moveOf}
 use Rattle.walker.specs.declared.Walker.{Walker}
 use Rattle.walker.specs.Walkers.{walkerOf}
 use Rattle.walking.specs.declared.Moved.{Moved}
 use Rattle.walking.specs.Answers.{beside, left, endNo}
 use Rattle.walking.specs.Checked.{Checked, stepAnswer, stepStrip}
-use Rattle.walking.proofs.Beside.{Outcome, outcome}
-use Rattle.walking.proofs.OneMove.{Makes, makes}
+use Rattle.walking.proofs.OneMove.{made}
 
 -- refusal 9, or none
 when-none : (n : ℕ) (b : Bool) → when n b .0 ≡ 0 → when n b ≡ fine
@@ -59,14 +54,11 @@ module _ (d : Bool) (counts s : List ℕ) (w : Walker) (c : Checked counts s w) 
       let e = end-some counts s d (λ z. h (no-is ∙ z)) in
       (e, is .1 ∙ rw e)
 
-  made : (o : Option Move) → Outcome d counts s o → endNo d counts s ≡ fine → Step d counts s r t
+  pub step-made : r .refusal .no ≡ 0 → Step d counts s r t
   unfolding stepAnswer stepStrip
-  made none m e = absurd (omega (arith, ap (λ (r : No). r .0) (sym m ∙ e)))
-  made (some o) m e =
-      let k = makes d counts s (c .strip) (some o) o refl m in
+  step-made h =
+      let e = end-none counts s d (sym no-is ∙ h) in
+      let k = made d counts s (c .strip) e .1 in
       let p = k .shown in
       let u : t ≡ beside d counts s = is .1 ∙ rw e in
       rw (u, is .0, e) (record { allowed = e; own = k .own; strip = refl; shown = rw p; walker = refl })
-
-  pub step-made : r .refusal .no ≡ 0 → Step d counts s r t
-  step-made h = made (moveOf d counts s) (outcome counts s (c .strip) d) (end-none counts s d (sym no-is ∙ h))

@@ -1,3 +1,4 @@
--- What Forward and Back answer (to be believed), and what the private functions promise.
+-- What Forward and Back answer and what a walk is (to be believed), and what the private functions promise.
 pub mod Answers
+pub mod Walks
 pub mod Checked

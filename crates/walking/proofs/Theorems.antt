@@ -1,0 +1,81 @@
+-- Theorems on Forward and Back, over their contracts as the functions state them: `Post` says which answers they allow for which input.
+use Prim.Native.Nat.{ℕ, _+_, _-_, _<_}
+use mathlib.Core.Path.{_≡_, refl, sym, ap, _∙_}
+use mathlib.Core.Bool.{Bool, true, false}
+use mathlib.Core.List.{List, [], _∷_}
+use native.Mathlib.Omega.{arith}
+use lib.ListN.{getD}
+use contract.Lifetimes.{Lfts}
+use borrow.Fn.Kinds.{Dens, endedOf}
+use denote.Triple.Clauses.{AtExit}
+use Rattle.rules.specs.Stock.{total, IsStock, IsStrip}
+use Rattle.rules.specs.Book.{book, placeIn}
+use Rattle.rules.specs.Outcome.{OneOutcome}
+use Rattle.rules.proofs.Checks.{accepted-both-back}
+use Rattle.rules.proofs.Refusals.{unless-passed}
+use Rattle.rules.proofs.Places.{place-undone, place-below, book-only, book-place}
+use Rattle.walker.specs.declared.Walker.{Walker}
+use Rattle.walker.specs.declared.open.Opened.{Opened}
+use Rattle.walker.specs.Walkers.{walkerOf, allForward}
+use Rattle.walker.specs.Answers.{openAnswer}
+use Rattle.walking.specs.declared.Moved.{Moved}
+use Rattle.walking.specs.Answers.{onward, beside, moveAnswer, moveStrip}
+use Rattle.walking.specs.Walks.{after, numberAfter, StayBelow}
+use Rattle.walking.proofs.Right.{HasBeside, MoveRight, right, beside-allowed, rows-back}
+use Rattle.walking.proofs.forward.forward.Kinds as forward
+use Rattle.walking.proofs.forward.forward.Reads as forward-reads
+use Rattle.walking.proofs.back.back.Kinds as back
+use Rattle.walking.proofs.back.back.Reads as back-reads
+
+-- ---- one outcome: two that the contract allows for one input are the same
+
+pub forward-one-outcome : OneOutcome 2 forward.ps forward.r (λ κs s. s .1 .0 .now) forward-reads.Post
+forward-one-outcome κs a x y s t h k = (h .0 ∙ sym (k .0), h .1 ∙ sym (k .1))
+
+pub back-one-outcome : OneOutcome 2 back.ps back.r (λ κs s. s .1 .0 .now) back-reads.Post
+back-one-outcome κs a x y s t h k = (h .0 ∙ sym (k .0), h .1 ∙ sym (k .1))
+
+-- ---- each outcome that the contract allows is right
+
+pub forward-right : (κs : Lfts 2) (a : Dens κs forward.ps) (r : Moved) (s : AtExit (endedOf 2 forward.ps forward.r) κs) → forward-reads.Post κs a r s
+    → MoveRight false (a .0 .now) (a .1 .0 .now) (a .1 .1 .0) r (s .1 .0 .now)
+forward-right κs a r s h = right false _ _ _ r _ h
+
+pub back-right : (κs : Lfts 2) (a : Dens κs back.ps) (r : Moved) (s : AtExit (endedOf 2 back.ps back.r) κs) → back-reads.Post κs a r s
+    → MoveRight true (a .0 .now) (a .1 .0 .now) (a .1 .1 .0) r (s .1 .0 .now)
+back-right κs a r s h = right true _ _ _ r _ h
+
+-- ---- demand 3
+
+module _ (counts : List ℕ) (k : IsStock counts) where
+  abbrev at : ℕ → List ℕ
+  at i = getD (book counts) i []
+
+  -- a move from the strip at i leads to the strip beside
+  one-move : (d : Bool) (i : ℕ) → i < total counts → HasBeside d (total counts) i → (moveStrip d counts (at i) (walkerOf counts (at i)) ≡ beside d counts (at i)) × (moveAnswer d counts (at i) (walkerOf counts (at i)) .walker ≡ walkerOf counts (beside d counts (at i)))
+  unfolding moveStrip moveAnswer
+  one-move d i l b =
+      let e = rows-back d counts (at i) (walkerOf counts (at i)) k (book-only counts i l) refl (beside-allowed counts (at i) d (rw (book-place counts i l) b)) in
+      rw e (refl, refl)
+
+  walks : (ds : List Bool) (i : ℕ) → i < total counts → StayBelow (total counts) ds i → after counts ds (at i) (walkerOf counts (at i)) ≡ (at (numberAfter ds i), walkerOf counts (at (numberAfter ds i)))
+  unfolding after numberAfter beside onward
+  walks [] i l w = refl
+  walks (false ∷ ds) i l w =
+      let m = one-move false i l (w .0) in
+      rw (m .0, m .1, book-place counts i l) (walks ds (i + 1) (w .0) (w .1))
+  walks (true ∷ ds) i l w =
+      let m = one-move true i l (w .0) in
+      rw (m .0, m .1, book-place counts i l) (walks ds (i - 1) (omega arith) (w .1))
+
+  pub walk-from : (s : List ℕ) → IsStrip counts s → (ds : List Bool) → StayBelow (total counts) ds (placeIn (book counts) s)
+      → after counts ds s (walkerOf counts s) ≡ (at (numberAfter ds (placeIn (book counts) s)), walkerOf counts (at (numberAfter ds (placeIn (book counts) s))))
+  walk-from s h ds w = rw (place-undone counts s h) at (walks ds (placeIn (book counts) s) (place-below counts s h) w)
+
+  -- a walker opened at any strip shows, after any moves on and back that stay within the book, exactly the strip that the book has there, and is that strip's walker
+  pub walk-shows : (s : List ℕ) → IsStrip counts s → (ds : List Bool) → StayBelow (total counts) ds (placeIn (book counts) s)
+      → after counts ds s (openAnswer counts s .walker) ≡ (at (numberAfter ds (placeIn (book counts) s)), walkerOf counts (at (numberAfter ds (placeIn (book counts) s))))
+  unfolding openAnswer
+  walk-shows s h ds w =
+      let o : openAnswer counts s .walker ≡ walkerOf counts s = unless-passed allForward (walkerOf counts s) _ (accepted-both-back counts s k h) in
+      rw o (walk-from s h ds w)
