@@ -101,8 +101,7 @@ module _ (d : Bool) (counts s : List ℕ) (w : Walker) where
         let n = firstOf (moveNos d counts s w) in
         let u = beside d counts s in
         let k : n .0 ≡ 0 → ⊥ = λ e. z (no-is ∙ e) in
-        let p = unless-refused [] (places s u) n k in
-        (
+        let p = unless-refused [] (places s u) n k in (
           ap (λ (r : Moved). r .low) (is .0) ∙ ap (λ (l : List ℕ). getD l 0 0) p,
           ap (λ (r : Moved). r .high) (is .0) ∙ ap (λ (l : List ℕ). getD l 1 0) p,
           ap (λ (r : Moved). r .walker) (is .0) ∙ unless-refused w (walkerOf counts u) n k,
