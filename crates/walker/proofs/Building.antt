@@ -3,10 +3,11 @@ use Prim.Native.Nat.{ℕ, suc, _+_, _%_, _≤_, _<_}
 use mathlib.Core.Path.{_≡_, refl, sym, ap, _∙_}
 use mathlib.Core.Bool.{Bool, true, false, not, _&&_, Bool·beq}
 use mathlib.Core.List.{List}
+use native.Mathlib.Decide.{decLt}
 use native.Mathlib.Numerals.{add-one}
 use native.Mathlib.Omega.{arith}
-use borrow.Author.Tests.{le-leb}
-use lib.Dec.{eqb}
+use borrow.Author.Tests.{le-leb, lt-leb}
+use lib.Dec.{eqb, leb}
 use lib.ListN.{length, getD, take, set}
 use Rattle.rules.specs.Stock.{sum, binom, IsStock, IsStrip}
 use Rattle.rules.specs.Book.{odd, reduced, backward}
@@ -19,7 +20,7 @@ use Rattle.rules.proofs.Prefixes.{OneMore, one-more, sum-take}
 use Rattle.rules.proofs.Parity.{odd-rest, odd-index, backward-number}
 use Rattle.walker.specs.declared.Walker.{Walker}
 use Rattle.walker.specs.Walkers.{walkerOf, allForward}
-use Rattle.walker.proofs.ByKind.{stored, walkerTo, walker-to, to-long, to-at, up-to-same}
+use Rattle.walker.proofs.ByKind.{stored, walkerTo, walker-to, to-long, to-at}
 
 -- ---- the parity, with one kind more
 
@@ -40,8 +41,14 @@ one-to counts s j h = stored (walkerTo counts s j) (walkerTo counts s (suc j)) (
     new : backward counts (suc j) s ≡ getD (walkerTo counts s (suc j) .back) j false
     new = sym (rw (le-leb (suc j) (suc j) (omega arith)) at (to-at counts s (suc j) j h))
 
+    same : (i : ℕ) → (i ≡ j → ⊥) → leb (suc i) j ≡ leb (suc i) (suc j)
+    same i e = elim (decLt i j) [
+      | yes l ↦ le-leb (suc i) j l ∙ sym (le-leb (suc i) (suc j) (omega arith))
+      | no l ↦ lt-leb (suc i) j (omega arith) ∙ sym (lt-leb (suc i) (suc j) (omega arith))
+    ]
+
     old : (i : ℕ) → i < 16 → (i ≡ j → ⊥) → getD (walkerTo counts s j .back) i false ≡ getD (walkerTo counts s (suc j) .back) i false
-    old i l e = to-at counts s j i l ∙ ap (λ (b : Bool). b && backward counts (suc i) s) (up-to-same i j e) ∙ sym (to-at counts s (suc j) i l)
+    old i l e = to-at counts s j i l ∙ ap (λ (b : Bool). b && backward counts (suc i) s) (same i e) ∙ sym (to-at counts s (suc j) i l)
 
 -- ---- the loop
 

@@ -3,10 +3,9 @@ use Prim.Native.Nat.{ℕ, zero, suc, _+_, _<_}
 use mathlib.Core.Path.{_≡_, refl, sym, ap, _∙_}
 use mathlib.Core.Bool.{Bool, false, _&&_}
 use mathlib.Core.List.{List, [], _∷_, map}
-use native.Mathlib.Decide.{ℕ-discrete, decLt}
+use native.Mathlib.Decide.{ℕ-discrete}
 use native.Mathlib.Numerals.{one-add}
 use native.Mathlib.Omega.{arith}
-use borrow.Author.Tests.{le-leb, lt-leb}
 use lib.Dec.{leb}
 use lib.ListN.{length, getD, set, length-set}
 use lib.Seq.{ext-getD, getD-set-same, getD-set-other}
@@ -69,9 +68,3 @@ module _ (counts s : List ℕ) (last : ℕ) where
   pub to-at : (i : ℕ) → i < 16 → getD (walkerTo counts s last .back) i false ≡ leb (suc i) last && backward counts (suc i) s
   unfolding walkerTo
   to-at = at-kind (λ j. leb j last && backward counts j s)
-
-pub up-to-same : (i j : ℕ) → (i ≡ j → ⊥) → leb (suc i) j ≡ leb (suc i) (suc j)
-up-to-same i j e = elim (decLt i j) [
-  | yes l ↦ le-leb (suc i) j l ∙ sym (le-leb (suc i) (suc j) (omega arith))
-  | no l ↦ lt-leb (suc i) j (omega arith) ∙ sym (lt-leb (suc i) (suc j) (omega arith))
-]

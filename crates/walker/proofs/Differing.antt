@@ -17,7 +17,7 @@ use Rattle.stock.proofs.Tested.{passed, stopped}
 use Rattle.walker.specs.declared.Walker.{Walker}
 use Rattle.walker.specs.declared.open.Opened.{Opened}
 use Rattle.walker.specs.Answers.{openAnswer}
-use Rattle.walker.specs.Walkers.{walkerOf, allForward, alike, differingFrom, walkerNo}
+use Rattle.walker.specs.Walkers.{walkerOf, alike, differingFrom, walkerNo}
 use Rattle.walker.proofs.ByKind.{walker-to, to-long}
 
 alike-is : (a b : Bool) → alike a b ≡ Bool·beq a b
@@ -119,7 +119,7 @@ module _ (counts s : List ℕ) (w : Walker) (o : Opened) (is : o ≡ openAnswer 
 
     opened-walker : o .walker ≡ walkerOf counts s
     unfolding openAnswer
-    opened-walker = ap (λ (o : Opened). o .walker) is ∙ unless-passed allForward (walkerOf counts s) (firstOf nos) none-yet
+    opened-walker = ap (λ (o : Opened). o .walker) is ∙ unless-passed _ _ (firstOf nos) none-yet
 
     next : firstOf (atPlace 10 p ∷ []) ≡ firstOf (nos ++ (walkerNo counts s w ∷ []))
     unfolding walkerNo

@@ -1,6 +1,6 @@
 // The walker of a strip: the direction of each kind.
 pub mod check;
-mod directions;
+pub mod directions;
 pub mod open;
 pub mod turning;
 
