@@ -1,0 +1,46 @@
+-- Theorems on Same paper, over its contract as the function states it.
+use Prim.Native.Nat.{ℕ, _<_}
+use mathlib.Core.Path.{_≡_, sym, ap, _∙_}
+use mathlib.Core.Bool.{true, false}
+use mathlib.Core.List.{List}
+use lib.ListN.{length}
+use contract.Lifetimes.{Lfts}
+use borrow.Fn.Kinds.{Dens, endedOf}
+use denote.Triple.Clauses.{AtExit}
+use Rattle.rules.specs.Book.{same}
+use Rattle.rules.specs.Outcome.{OneAnswer}
+use Rattle.rules.proofs.Refusals.{unless-passed}
+use Rattle.rules.proofs.Places.{same-self, same-true}
+use Rattle.papers.specs.declared.Asked.{Asked}
+use Rattle.papers.specs.Papers.{turned, isTurn, samePaperAnswer}
+use Rattle.papers.proofs.Turning.{some-hit, some-where}
+use Rattle.papers.proofs.same_paper.Kinds as same-paper
+use Rattle.papers.proofs.same_paper.Reads as reads
+
+-- two answers that the contract allows for one input are the same
+pub one-outcome : OneAnswer 3 same-paper.ps same-paper.r reads.Post
+one-outcome κs a x y s t h k = h ∙ sym k
+
+-- any answer r that the contract allows for a stock and two strips
+module _ (κs : Lfts 3) (a : Dens κs same-paper.ps) (r : Asked) (s : AtExit (endedOf 3 same-paper.ps same-paper.r) κs) (h : reads.Post κs a r s) where
+  abbrev first : List ℕ
+  first = a .1 .0 .now
+
+  abbrev second : List ℕ
+  second = a .1 .1 .0 .now
+
+  same-is : r .refusal .no ≡ 0 → r .same ≡ isTurn first second
+  unfolding samePaperAnswer
+  same-is e = ap (λ (r : Asked). r .same) h ∙ unless-passed false _ _ (sym (ap (λ (r : Asked). r .refusal .no) h) ∙ e)
+
+  -- yes: the second strip is the first turned by some number of places below n
+  pub yes-turned : r .refusal .no ≡ 0 → r .same ≡ true → (t : ℕ) × (t < length first) × (turned t first ≡ second)
+  unfolding isTurn
+  yes-turned e y =
+      let w = some-where (λ t. same (turned t first) second) (length first) (sym (same-is e) ∙ y) in
+      (w .0, w .1, same-true (turned (w .0) first) second (w .2))
+
+  -- and back
+  pub turned-yes : r .refusal .no ≡ 0 → (t : ℕ) → t < length first → turned t first ≡ second → r .same ≡ true
+  unfolding isTurn
+  turned-yes e t l f = same-is e ∙ sym (some-hit (λ t. same (turned t first) second) (length first) t l (rw f (sym (same-self second))))
