@@ -5,7 +5,7 @@ use mathlib.Core.List.{List, [], _++_}
 use native.Mathlib.Numerals.{add-one}
 use native.Mathlib.Omega.{arith}
 use lib.ListN.{length, getD, take, drop}
-use lib.Seq.{take-at, take-take, length-take-le, length-front}
+use lib.Seq.{take-at, take-take, length-front}
 use Rattle.rules.specs.Stock.{sum, binom, total, IsStrip}
 use Rattle.rules.specs.Book.{E, lay, book, reduced}
 use Rattle.rules.proofs.Index.{index}
@@ -36,20 +36,17 @@ module _ (counts : List ℕ) (number : ℕ) (below : number < total counts) wher
       abbrev to : ℕ
       to = from + getD counts j 0
 
-      long : length (take to strip) ≡ to
-      long = length-take-le to strip (rising.within l h)
-
       pub within : i < binom (length (take to strip)) from
       unfolding index
-      within = rw (is, long, rising.next-blocks l h, l .blocks) (index-within counts s own j h)
+      within = rw (is, rising.long l h, rising.next-blocks l h, l .blocks) (index-within counts s own j h)
 
       -- the first places hold the next reduced strip
       module _ (word : List ℕ) (kept : length word ≡ length (take to strip)) (laid : word ≡ lay (j + 1) (take from (take to strip)) (getD (E (length (take to strip)) from) i [])) where
         word-is : word ≡ reduced (suc j) s
-        word-is = laid ∙ rw (take-take from to strip (omega arith), l .laid, long, rising.next-blocks l h, l .blocks, is, add-one j) (reduced-laid counts s own j h)
+        word-is = laid ∙ rw (take-take from to strip (omega arith), l .laid, rising.long l h, rising.next-blocks l h, l .blocks, is, add-one j) (reduced-laid counts s own j h)
 
         pub on : Layered counts number (word ++ drop to strip) to (j + 1)
-        on = rising.on l h (word ++ drop to strip) (length-front strip word to kept) (take-at word (drop to strip) to (kept ∙ long) ∙ word-is)
+        on = rising.on l h (word ++ drop to strip) (length-front strip word to kept) (take-at word (drop to strip) to (kept ∙ rising.long l h) ∙ word-is)
 
     pub end : length counts ≤ j → strip ≡ s
     end h = rising.end l h ∙ prefix-all counts s own

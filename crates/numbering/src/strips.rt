@@ -11,7 +11,8 @@ ghost use Rattle.rules.specs.Book.{book, reduced};
 ghost use Rattle.rules.proofs.Index.{index};
 ghost use Rattle.choose.specs.Triangle.{triangle};
 
-// The index of each kind's pattern in the strip of a number, n the sum of the counts. Counted backward where the number of the kinds before is odd.
+// The index of each kind's pattern in the strip of a number, from the last kind to the first. The quotient is the number of the kinds before, and
+// the rest is the place in the kind's list, counted backward where that number is odd. n is the sum of the counts.
 fn indices_of(rows: &[u64; 2145], stock: &[u16], n: usize, number: u64) -> [u64; 16]
     requires { ⌜ (now rows ≡ triangle) × IsStock (now stock) × (n ≡ sum (now stock)) × (number < total (now stock)) ⌝ }
     ensures { λ r. ⌜ ((j : ℕ) → j < length (now (stock .entry)) → getD r j 0 ≡ index (suc j) (reduced (suc j) (getD (book (now (stock .entry))) number []))) ⌝ }

@@ -5,7 +5,7 @@ use mathlib.Core.List.{List, []}
 use native.Mathlib.Numerals.{add-one}
 use native.Mathlib.Omega.{arith}
 use lib.ListN.{length, getD, take}
-use lib.Seq.{take-all}
+use lib.Seq.{take-all, length-take-le}
 use Rattle.rules.specs.Stock.{sum}
 use Rattle.rules.proofs.Turned.{sum-next}
 use Rattle.rules.proofs.Prefixes.{sum-take}
@@ -30,6 +30,9 @@ module _ {part : ℕ → List ℕ} {counts strip : List ℕ} {from j : ℕ} (s :
 
     pub within : to ≤ length strip
     within = omega (arith, next-blocks, s .room, sum-take counts (suc j))
+
+    pub long : length (take to strip) ≡ to
+    long = length-take-le to strip within
 
     -- the next kind is laid in
     pub on : (next : List ℕ) → length next ≡ length strip → take to next ≡ part (suc j) → Rising part counts next to (j + 1)

@@ -3,7 +3,6 @@ use Prim.Native.Nat.{_-_}
 use mathlib.Core.Path.{sym, _∙_}
 use native.Mathlib.Omega.{arith}
 use lib.ListN.{length}
-use lib.Seq.{length-take-le}
 use borrow.Author.Needs.{needs}
 use Rattle.rules.proofs.Rising as rising
 use Rattle.numbering.proofs.Layers.{Layered, start, within, on, end}
@@ -22,7 +21,7 @@ lay-at-requires c κs =
     let b = c .before .before .before in
     let p = b .before .before .before .before .pre in
     let h = c .before .before .loop-test .taken in
-    let e = length-take-le (rising.to (b .loop .inv) h) (b .loop .strip) (rising.within (b .loop .inv) h) in
+    let e = rising.long (b .loop .inv) h in
     (p .0, omega (arith, e, rising.within (b .loop .inv) h, b .loop .inv .room, p .1 .short), omega (arith, e), within _ _ (p .3) (b .loop .inv) h _ (b .before .indices-of .ensures _ h))
 
 loop-again : tie.Need-loop-again Inv-loop μ-loop
@@ -48,7 +47,7 @@ strip-of-spec =
     (λ c. omega (arith, c .before .before .before .before .before .before .pre .1 .few))
     (λ c. omega arith)
     (λ c. rising.within (c .before .before .loop .inv) (c .before .loop-test .taken))
-    (λ c. let b = c .before .before .before in let h = c .before .before .loop-test .taken in sym (length-take-le (rising.to (b .loop .inv) h) (b .loop .strip) (rising.within (b .loop .inv) h)))
+    (λ c. sym (rising.long (c .before .before .before .loop .inv) (c .before .before .loop-test .taken)))
     (λ c. omega (arith, c .before .before .before .before .before .before .before .pre .1 .few))
     lay-at-requires
     (λ c. omega arith)
