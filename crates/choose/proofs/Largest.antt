@@ -1,6 +1,6 @@
 -- Proofs. The table has 2,145 numbers; the largest is C(64, 32), so every binomial to row 64 fits 64 bits. Each fact is computed over the whole triangle, never by Pascal's rule itself.
 use Prim.Native.Nat.{ℕ, zero, suc, _+_, _*_, _/_, _^_, _≤_, _<_}
-use mathlib.Core.Path.{_≡_, refl, sym, _∙_}
+use mathlib.Core.Path.{_≡_, refl, sym}
 use mathlib.Core.Bool.{Bool, true, false, _&&_}
 use mathlib.Core.List.{List, [], _∷_}
 use native.Mathlib.Decide.{decLt}

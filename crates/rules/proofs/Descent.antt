@@ -6,7 +6,7 @@ use mathlib.Core.Bool.{Bool, true, false}
 use mathlib.Core.Option.{Option, none, some}
 use mathlib.Core.List.{List, [], _∷_, _++_, reverse}
 use native.Mathlib.Omega.{arith}
-use lib.ListN.{length, getD, take, drop, replicate, length-replicate, length-append, length-take, length-drop}
+use lib.ListN.{length, getD, take, drop, replicate, length-replicate, length-take, length-drop}
 use lib.Seq.{take-nil, take-all, take-take, take-at, drop-at, drop-drop}
 use Rattle.rules.specs.Stock.{sum, IsStrip}
 use Rattle.rules.specs.Book.{Word, reduced, backward}

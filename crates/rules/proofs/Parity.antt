@@ -1,10 +1,9 @@
 -- Proofs. The parity of a strip's number, kind by kind: the parities of the patterns' indices give it, also where the number is 2^64 or more.
-use Prim.Native.Nat.{ℕ, suc, _+_, _-_, _%_, _≤_, _<_}
+use Prim.Native.Nat.{ℕ, suc, _+_, _-_, _≤_, _<_}
 use mathlib.Core.Path.{_≡_, refl, ap, _∙_}
 use mathlib.Core.Bool.{Bool, true, false, not, _&&_}
 use mathlib.Core.List.{List}
 use native.Mathlib.Omega.{arith}
-use lib.Dec.{eqb}
 use lib.ListN.{length, take}
 use Rattle.rules.specs.Stock.{IsStrip}
 use Rattle.rules.specs.Book.{odd, reduced, backward}
@@ -12,17 +11,9 @@ use Rattle.rules.proofs.Listed.{face, flip}
 use Rattle.rules.proofs.Snake.{numbered}
 use Rattle.rules.proofs.Books.{number′}
 use Rattle.rules.proofs.Strips.{number}
-use Rattle.rules.proofs.Numbers.{odd-add, odd-numbered, bit, odd-mod}
+use Rattle.rules.proofs.Numbers.{odd-add, odd-numbered}
 use Rattle.rules.proofs.Places.{place-number}
 use Rattle.rules.proofs.Reduced.{prefix-strip}
-
--- as code finds it
-pub odd-rest : (n : ℕ) → eqb (n % 2) 1 ≡ odd n
-odd-rest n = go (odd n) (odd-mod n)
-  where
-    go : (b : Bool) → n % 2 ≡ bit b → eqb (n % 2) 1 ≡ b
-    go false e = rw e
-    go true e = rw e
 
 flip-undone : (a b : Bool) → flip (flip a b) a ≡ b
 flip-undone false false = refl

@@ -17,7 +17,8 @@ use Rattle.rules.proofs.Books.{number′}
 use Rattle.rules.proofs.Strips.{number, strip-sum}
 use Rattle.rules.proofs.Index.{rests, index}
 use Rattle.rules.proofs.Prefixes.{OneMore, one-more, sum-take}
-use Rattle.rules.proofs.Parity.{odd-rest, odd-index, backward-number}
+use Rattle.rules.proofs.Numbers.{odd-rest}
+use Rattle.rules.proofs.Parity.{odd-index, backward-number}
 use Rattle.walker.specs.declared.Walker.{Walker}
 use Rattle.walker.specs.Walkers.{walkerOf, allForward}
 use Rattle.walker.proofs.ByKind.{stored, walkerTo, walker-to, to-long, to-at}
