@@ -23,6 +23,7 @@ use Rattle.walking.specs.Checked.{Checked, found, stepAnswer, stepStrip}
 use Rattle.walking.proofs.OneMove.{found-none, found-some}
 use Rattle.walking.proofs.Onward.{none-left, some-left, onward-none, onward-strip, onward-left, onward-beside}
 use Rattle.walking.proofs.Stepped.{Step, step-refused, step-made}
+use Rattle.running.specs.declared.run.Ran.{Ran}
 use Rattle.running.specs.Answers.{runMoves, asRan, movesFrom}
 use Rattle.running.specs.Made.{Made}
 
@@ -68,9 +69,9 @@ module _ (counts s list₀ t : List ℕ) (w : Walker) (list : List ℕ) (i : ℕ
   here = rw (v .strip) (onward-left counts s h i (v .made))
 
   -- where i moves are all, they are made
-  all : (b : Bool) → runMoves counts s list₀ ≡ i → b ≡ eqb i (left counts s) → Made counts s list₀ (asRan fine i b w) t list
-  all b e f = record {
-    answer = rw (e, f) (ap (asRan fine i (eqb i (left counts s))) (v .walker ∙ ap (walkerOf counts) (v .strip)));
+  all : (x : Ran) (b : Bool) → x ≡ asRan fine i b w → runMoves counts s list₀ ≡ i → b ≡ eqb i (left counts s) → Made counts s list₀ x t list
+  all x b a e f = record {
+    answer = a ∙ rw (e, f) (ap (asRan fine i (eqb i (left counts s))) (v .walker ∙ ap (walkerOf counts) (v .strip)));
     strip = rw e (v .strip);
     listed = rw e (v .listed);
   }
@@ -95,17 +96,17 @@ module _ (counts s list₀ t : List ℕ) (w : Walker) (list : List ℕ) (i : ℕ
         }
 
     -- the last strip is reached before the room is used
-    pub stop : (r .refusal .no ≡ 0 → ⊥) → i < length list₀ / 2 → Made counts s list₀ (asRan fine i true w) u list
+    pub stop : (x : Ran) → x ≡ asRan fine i true w → (r .refusal .no ≡ 0 → ⊥) → i < length list₀ / 2 → Made counts s list₀ x u list
     unfolding runMoves
-    stop z l =
+    stop x a z l =
         let m = step-refused false counts t w checked r u is z in
         let e : left counts s ≡ i = omega (arith, none-left counts t (m .0), here, v .made) in
-        rw (m .1) (all true (omega (arith, e)) (sym (eq-eqb i (left counts s) (sym e))))
+        rw (m .1) (all x true a (omega (arith, e)) (sym (eq-eqb i (left counts s) (sym e))))
 
   -- the room is used
-  pub full : (m : Found) → m ≡ found (length counts) (moveOf false counts t) → length list₀ / 2 ≤ i → Made counts s list₀ (asRan fine i (eqb (m .kind) 0) w) t list
+  pub full : (m : Found) → m ≡ found (length counts) (moveOf false counts t) → (x : Ran) → x ≡ asRan fine i (eqb (m .kind) 0) w → length list₀ / 2 ≤ i → Made counts s list₀ x t list
   unfolding runMoves
-  full m is l = all (eqb (m .kind) 0) (omega (arith, v .room, v .made)) (elim (ℕ-discrete (m .kind) 0) [
+  full m is x a l = all x (eqb (m .kind) 0) a (omega (arith, v .room, v .made)) (elim (ℕ-discrete (m .kind) 0) [
     | yes z ↦
         let e : left counts s ≡ i = omega (arith, none-left counts t (found-none false counts t (checked .strip) m is z), here, v .made) in
         rw (eq-eqb (m .kind) 0 z, eq-eqb i (left counts s) (sym e))

@@ -5,8 +5,9 @@ use walker::check::check_walker;
 use walking::finding::find;
 use walking::stepping::step;
 ghost use mathlib.Core.Path.{_≡_};
+ghost use Rattle.rules.specs.Refusals.{fine};
 ghost use Rattle.walking.specs.Checked.{Checked};
-ghost use Rattle.running.specs.Answers.{runAnswer, runStrip, runList};
+ghost use Rattle.running.specs.Answers.{asRan, runAnswer, runStrip, runList};
 ghost use Rattle.running.specs.Made.{Made};
 
 // What Run answers.
@@ -16,6 +17,18 @@ pub struct Ran {
     pub moves: u64,
     pub last: bool,
     pub walker: Walker,
+}
+
+// The answer of a run that was not refused.
+fn answered(moves: usize, last: bool, walker: Walker) -> Ran
+    ensures { λ r. ⌜ r ≡ asRan fine moves last walker ⌝ }
+{
+    Ran {
+        refusal: Refusal { no: 0, place: 0 },
+        moves: moves as u64,
+        last,
+        walker,
+    }
 }
 
 // Moves a checked strip on and lists the places, two a move.
@@ -31,12 +44,7 @@ fn run_on(stock: &[u16], strip: &mut [u8], walker: Walker, list: &mut [u8]) -> R
         let refusal = m.refusal;
         let no = refusal.no;
         if no != 0 {
-            return Ran {
-                refusal: Refusal { no: 0, place: 0 },
-                moves: moves as u64,
-                last: true,
-                walker,
-            };
+            return answered(moves, true, walker);
         }
         list[2 * moves] = m.low;
         list[2 * moves + 1] = m.high;
@@ -45,12 +53,8 @@ fn run_on(stock: &[u16], strip: &mut [u8], walker: Walker, list: &mut [u8]) -> R
         moves += 1;
     }
     let m = find(stock, strip, walker, false);
-    Ran {
-        refusal: Refusal { no: 0, place: 0 },
-        moves: moves as u64,
-        last: m.kind == 0,
-        walker,
-    }
+    let last = m.kind == 0;
+    answered(moves, last, walker)
 }
 
 // The input is checked once; after that the strip only moves.

@@ -27,13 +27,13 @@ pub fn step(stock: &[u16], strip: &mut [u8], walker: Walker, back: bool) -> Move
     let block = strip[low];
     strip[low] = strip[high];
     strip[high] = block;
-    let walker = turned_above(walker, kind, stock.len());
-    let low = (low + 1) as u8;
-    let high = (high + 1) as u8;
+    let turned = turned_above(walker, kind, stock.len());
+    let first = (low + 1) as u8;
+    let second = (high + 1) as u8;
     Moved {
         refusal: Refusal { no: 0, place: 0 },
-        low,
-        high,
-        walker,
+        low: first,
+        high: second,
+        walker: turned,
     }
 }

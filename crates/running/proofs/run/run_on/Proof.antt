@@ -2,6 +2,7 @@
 use Prim.Native.Nat.{_-_}
 use mathlib.Core.Path.{_≡_, _∙_}
 use native.Mathlib.Omega.{arith}
+use borrow.Author.Needs.{needs}
 use lib.ListN.{length, length-set}
 use Rattle.walking.specs.Checked.{Checked}
 use Rattle.running.proofs.Running.{Running, start, checked, same-strip, same-list, on, stop, full}
@@ -33,23 +34,23 @@ step-requires c κs = ready (c .before .before)
 
 returns : tie.Need-returns Inv-loop μ-loop
 returns c =
-    let s = c .before .before .before .before in
+    let s = c .before .before .before .before .before in
     let b = s .before .before .before in
     let p = b .before .before .before .before .pre in
-    stop _ _ _ _ _ _ _ (p .stock) (p .strip) (b .loop .inv) _ _ (s .step .ensures) (c .if1 .taken) (s .before .before .loop-test .taken)
+    stop _ _ _ _ _ _ _ (p .stock) (p .strip) (b .loop .inv) _ _ (s .step .ensures) _ (c .answered .ensures) (omega arith) (omega arith)
 
 loop-again : tie.Need-loop-again Inv-loop μ-loop
 loop-again c =
     let s = c .before .before .before .before .before in
     let b = s .before .before .before in
     let p = b .before .before .before .before .pre in
-    on _ _ _ _ _ _ _ (p .stock) (p .strip) (b .loop .inv) _ _ (s .step .ensures) (c .before .if1 .left) (s .before .before .loop-test .taken)
+    on _ _ _ _ _ _ _ (p .stock) (p .strip) (b .loop .inv) _ _ (s .step .ensures) (omega arith) (omega arith)
 
 returns-2 : tie.Need-returns-2 Inv-loop μ-loop
 returns-2 c =
-    let a = c .before .before .before in
+    let a = c .before .before .before .before in
     let p = a .before .before .before .before .before .pre in
-    full _ _ _ _ _ _ _ (p .stock) (p .strip) (a .before .loop .inv) _ (c .before .find .ensures) (a .loop-test .left)
+    full _ _ _ _ _ _ _ (p .stock) (p .strip) (a .before .loop .inv) _ (c .before .before .find .ensures) _ (c .answered2 .ensures) (omega arith)
 
 pub run-on-spec : {M : Type 1} → statement M
 run-on-spec =
@@ -59,8 +60,9 @@ run-on-spec =
     μ-loop
     loop-holds
     step-requires
-    (λ c. let s = c .before .before .before .before in s .step .kept .1 .0 ∙ strip-kept (s .before .before .before))
-    (λ c. list-kept (c .before .before .before .before .before .before .before))
+    (λ c κs. search needs)
+    (λ c. let s = c .before .before .before .before .before in s .step .kept .1 .0 ∙ strip-kept (s .before .before .before))
+    (λ c. list-kept (c .before .before .before .before .before .before .before .before))
     returns
     (λ c. omega (arith, list-kept (c .before .before .before .before .before .before .before)))
     (λ c. omega (arith, list-kept (c .before .before .before .before .before .before .before)))
@@ -71,6 +73,7 @@ run-on-spec =
     (λ c. omega arith)
     loop-again
     (λ c κs. ready (c .before .before))
-    (λ c. strip-kept (c .before .before .before .before))
-    (λ c. list-kept (c .before .before .before .before))
+    (λ c κs. search needs)
+    (λ c. strip-kept (c .before .before .before .before .before))
+    (λ c. list-kept (c .before .before .before .before .before))
     returns-2)

@@ -1,5 +1,5 @@
 -- `walking::stepping::step` meets its contract: where no kind moves, refusal 9; else the exchange and the turned walker.
-use Prim.Native.Nat.{_≤_}
+use Prim.Native.Nat.{_≤_, _<_}
 use native.Mathlib.Omega.{arith}
 use borrow.Author.Needs.{needs}
 use lib.ListN.{length, length-set}
@@ -11,19 +11,20 @@ use Rattle.walking.proofs.stepping.step.Tie as tie
 returns : tie.Need-returns
 returns c =
     let b = c .before .before .before .before .before in
-    stays (b .args .back) _ _ _ (found-none (b .args .back) _ _ (b .pre .strip) _ (c .before .find .ensures) (c .if1 .taken))
+    stays (b .args .back) _ _ _ (found-none (b .args .back) _ _ (b .pre .strip) _ (c .before .find .ensures) (omega arith))
 
--- the move that was found, and that its places are numbers of a byte
+-- the move that was found, and where its places are
 move : (c : tie.Else1) → let a = c .before .before .before .before .before .args in let m = c .before .find .result in
     Makes (a .back) (a .stock .now) (a .strip .now) (m .kind) (m .low) (m .high)
 move c =
     let b = c .before .before .before .before .before in
-    found-some (b .args .back) _ _ (b .pre .strip) _ (c .before .find .ensures) (c .if1 .left)
+    found-some (b .args .back) _ _ (b .pre .strip) _ (c .before .find .ensures) (omega arith)
 
-short : (c : tie.Else1) → length (c .before .before .before .before .before .args .strip .now) ≤ 64
-short c =
+inside : (c : tie.Else1) → let n = length (c .before .before .before .before .before .args .strip .now) in let m = c .before .find .result in (m .low < n) × (m .high < n) × (n ≤ 64)
+inside c =
     let b = c .before .before .before .before .before in
-    omega (arith, strip-sum (b .args .stock .now) (b .args .strip .now) (b .pre .strip), b .pre .stock .short)
+    let m = move c in
+    (omega (arith, m .order, m .inside), m .inside, omega (arith, strip-sum (b .args .stock .now) (b .args .strip .now) (b .pre .strip), b .pre .stock .short))
 
 turned-above-requires : tie.Need-turned-above-requires
 turned-above-requires c κs =
@@ -43,14 +44,14 @@ step-spec =
     (λ c κs. c .before .before .before .pre)
     (λ c. search needs)
     returns
-    (λ c. omega (arith, move (c .before) .order, move (c .before) .inside))
-    (λ c. move (c .before .before) .inside)
-    (λ c. omega (arith, move (c .before .before) .order, move (c .before .before) .inside))
-    (λ c. simp length-set (move (c .before .before) .inside))
+    (λ c. omega (arith, inside (c .before)))
+    (λ c. omega (arith, inside (c .before .before)))
+    (λ c. omega (arith, inside (c .before .before)))
+    (λ c. simp length-set (omega (arith, inside (c .before .before))))
     turned-above-requires
-    (λ c. let e = c .before .before .before in omega (arith, move e .order, move e .inside, short e))
-    (λ c. let e = c .before .before .before in omega (arith, move e .order, move e .inside, short e))
-    (λ c. let e = c .before .before .before in omega (arith, move e .inside, short e))
-    (λ c. let e = c .before .before .before in omega (arith, move e .inside, short e))
+    (λ c. omega (arith, inside (c .before .before .before)))
+    (λ c. omega (arith, inside (c .before .before .before)))
+    (λ c. omega (arith, inside (c .before .before .before)))
+    (λ c. omega (arith, inside (c .before .before .before)))
     (λ c. simp length-set)
     returns-2)
