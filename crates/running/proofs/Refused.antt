@@ -1,20 +1,19 @@
 -- Proofs. Run called with any stock, strip and walker: refused by 1 to 6 or 10, or else what the loop makes of what is then checked.
-use Prim.Native.Nat.{ℕ, _*_}
-use mathlib.Core.Path.{_≡_, refl, sym, ap, _∙_}
-use mathlib.Core.Bool.{Bool, false}
-use mathlib.Core.List.{List, _++_}
+use Prim.Native.Nat.{ℕ}
+use mathlib.Core.Path.{_≡_, sym, ap}
+use mathlib.Core.Bool.{false}
+use mathlib.Core.List.{List}
 use lib.Dec.{eqb}
-use lib.ListN.{drop}
-use Rattle.rules.specs.Refusals.{fine, firstOf}
+use Rattle.rules.specs.Refusals.{firstOf}
 use Rattle.rules.proofs.Refusals.{unless-refused, passed-fine}
 use Rattle.stock.specs.declared.Refusal.{Refusal}
 use Rattle.stock.specs.Refused.{refusal}
 use Rattle.stock.proofs.Tested.{passed, stopped}
 use Rattle.walker.specs.declared.Walker.{Walker}
-use Rattle.walking.specs.Answers.{onward, left}
+use Rattle.walking.specs.Answers.{left}
 use Rattle.walking.proofs.Called.{firstNos}
 use Rattle.running.specs.declared.run.Ran.{Ran}
-use Rattle.running.specs.Answers.{runNos, runMoves, asRan, runAnswer, runStrip, movesFrom, runList}
+use Rattle.running.specs.Answers.{runNos, runMoves, asRan, runAnswer, runStrip, runList}
 use Rattle.running.specs.Made.{Made}
 
 module _ (counts s list : List ℕ) (w : Walker) (r : Refusal) (is : r ≡ refusal (firstOf (firstNos counts s w))) where

@@ -1,5 +1,5 @@
 -- Proofs. A run on its way: after i moves the strip is the one i numbers further on, the walker its walker, and the list has the places of those moves.
-use Prim.Native.Nat.{ℕ, suc, min, _+_, _*_, _/_, _-_, _≤_, _<_}
+use Prim.Native.Nat.{ℕ, suc, _+_, _*_, _/_, _-_, _≤_, _<_}
 use mathlib.Core.Path.{_≡_, refl, sym, ap, _∙_}
 use mathlib.Core.Bool.{Bool, true, false}
 use mathlib.Core.List.{List, [], _∷_, _++_, append-assoc}
@@ -8,7 +8,7 @@ use native.Mathlib.Numerals.{add-one}
 use native.Mathlib.Omega.{arith}
 use borrow.Author.Tests.{eq-eqb, ne-eqb}
 use lib.Dec.{eqb}
-use lib.ListN.{length, getD, drop, set, length-append, length-drop}
+use lib.ListN.{length, drop, set, length-append, length-drop}
 use lib.Seq.{drop-cons, set-at}
 use Rattle.rules.specs.Stock.{IsStock, IsStrip}
 use Rattle.rules.specs.Neighbours.{places}
@@ -18,7 +18,7 @@ use Rattle.walker.specs.declared.Walker.{Walker}
 use Rattle.walker.specs.Walkers.{walkerOf}
 use Rattle.walking.specs.declared.Moved.{Moved}
 use Rattle.walking.specs.declared.finding.Found.{Found}
-use Rattle.walking.specs.Answers.{onward, beside, left, endNo}
+use Rattle.walking.specs.Answers.{onward, left}
 use Rattle.walking.specs.Checked.{Checked, found, stepAnswer, stepStrip}
 use Rattle.walking.proofs.OneMove.{found-none, found-some}
 use Rattle.walking.proofs.Onward.{none-left, some-left, onward-none, onward-strip, onward-left, onward-beside}

@@ -11,7 +11,7 @@ use Rattle.rules.specs.Book.{backward}
 use Rattle.rules.proofs.Listed.{flip}
 use Rattle.rules.proofs.Moves.{moveE}
 use Rattle.rules.proofs.Books.{pattern}
-use Rattle.rules.proofs.Strips.{moveOf, strip-sum}
+use Rattle.rules.proofs.Strips.{moveOf}
 use Rattle.rules.proofs.Index.{rests}
 use Rattle.rules.proofs.Descent.{Descent, move-inside, others, fits, short, found as kind-moves, past-front, past-back}
 use Rattle.pattern.specs.declared.moves.Step.{Step}

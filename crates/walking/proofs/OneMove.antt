@@ -1,17 +1,17 @@
 -- Proofs. What was found, tested by its kind: no move, and what the step then answers; or a move, whose exchange gives the strip beside.
-use Prim.Native.Nat.{ℕ, suc, _+_, _-_, _≤_, _<_}
+use Prim.Native.Nat.{ℕ, _+_, _-_, _≤_, _<_}
 use mathlib.Core.Path.{_≡_, refl, sym, ap, _∙_}
 use mathlib.Core.Bool.{Bool}
 use mathlib.Core.Option.{Option, none, some}
-use mathlib.Core.List.{List, [], _∷_, reverse}
+use mathlib.Core.List.{List, [], _∷_}
 use native.Mathlib.Omega.{arith}
-use lib.ListN.{length, getD, length-reverse}
+use lib.ListN.{length, length-reverse}
 use Rattle.rules.specs.Stock.{IsStrip}
 use Rattle.rules.specs.Neighbours.{Neighbours, places}
 use Rattle.rules.specs.Refusals.{No, fine}
-use Rattle.rules.proofs.Exchange.{swap, Exchanged, exchanged}
-use Rattle.rules.proofs.Walk.{Move, Leads}
-use Rattle.rules.proofs.Strips.{moveOf, strip-sum}
+use Rattle.rules.proofs.Exchange.{swap, exchanged}
+use Rattle.rules.proofs.Walk.{Move}
+use Rattle.rules.proofs.Strips.{moveOf}
 use Rattle.rules.proofs.Neighbours.{swapped-places, swapped-neighbours}
 use Rattle.walker.specs.declared.Walker.{Walker}
 use Rattle.walker.specs.Walkers.{walkerOf}

@@ -1,17 +1,15 @@
 -- Proofs. What an answer of Forward (at false) or Back (at true) must be.
-use Prim.Native.Nat.{ℕ, suc, _+_, _-_, _<_}
+use Prim.Native.Nat.{ℕ, _+_, _-_, _<_}
 use mathlib.Core.Path.{_≡_, refl, sym, ap, _∙_}
 use mathlib.Core.Bool.{Bool, true, false}
-use mathlib.Core.List.{List, [], _∷_, _++_}
-use native.Mathlib.Numerals.{add-one}
+use mathlib.Core.List.{List, [], _∷_}
 use native.Mathlib.Omega.{arith}
 use borrow.Author.Tests.{eqb-false, ne-eqb}
-use lib.Dec.{eqb}
 use lib.ListN.{length, getD}
 use Rattle.rules.specs.Stock.{total, IsStock, IsStrip}
 use Rattle.rules.specs.Book.{book, placeIn}
 use Rattle.rules.specs.Neighbours.{Neighbours, places}
-use Rattle.rules.specs.Refusals.{No, fine, firstOf, unless, checkNos}
+use Rattle.rules.specs.Refusals.{No, fine, firstOf, checkNos}
 use Rattle.rules.proofs.Refusals.{passed-both, passed-first, passed-fine, unless-refused}
 use Rattle.rules.proofs.Checks.{when-passed, passed-head, accepted-both, accepted-both-back}
 use Rattle.rules.proofs.Moves.{Onward}

@@ -7,7 +7,7 @@ use lib.Dec.{eqb}
 use Rattle.rules.specs.Stock.{IsStrip}
 use Rattle.rules.specs.Book.{book, placeIn}
 use Rattle.rules.specs.Neighbours.{places}
-use Rattle.rules.specs.Refusals.{No, fine, when}
+use Rattle.rules.specs.Refusals.{fine, when}
 use Rattle.walker.specs.declared.Walker.{Walker}
 use Rattle.walker.specs.Walkers.{walkerOf}
 use Rattle.walking.specs.declared.Moved.{Moved}

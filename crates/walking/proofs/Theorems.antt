@@ -1,6 +1,6 @@
 -- Theorems on Forward and Back, over their contracts as the functions state them: `Post` says which answers they allow for which input.
 use Prim.Native.Nat.{ℕ, _+_, _-_, _<_}
-use mathlib.Core.Path.{_≡_, refl, sym, ap, _∙_}
+use mathlib.Core.Path.{_≡_, refl, sym, _∙_}
 use mathlib.Core.Bool.{Bool, true, false}
 use mathlib.Core.List.{List, [], _∷_}
 use native.Mathlib.Omega.{arith}
@@ -14,8 +14,6 @@ use Rattle.rules.specs.Outcome.{OneOutcome}
 use Rattle.rules.proofs.Checks.{accepted-both-back}
 use Rattle.rules.proofs.Refusals.{unless-passed}
 use Rattle.rules.proofs.Places.{place-undone, place-below, book-only, book-place}
-use Rattle.walker.specs.declared.Walker.{Walker}
-use Rattle.walker.specs.declared.open.Opened.{Opened}
 use Rattle.walker.specs.Walkers.{walkerOf, allForward}
 use Rattle.walker.specs.Answers.{openAnswer}
 use Rattle.walking.specs.declared.Moved.{Moved}

@@ -35,7 +35,8 @@ returns-2 : tie.Need-returns-2
 returns-2 c =
     let e = c .before .before .before in
     let b = e .before .before .before .before .before in
-    moves (b .args .back) _ _ _ (b .pre) _ _ _ _ (move e) (c .turned-above .ensures)
+    let m = moves (b .args .back) _ _ _ (b .pre) _ _ _ _ (move e) (c .turned-above .ensures) in
+    (m .0, m .1)
 
 pub step-spec : {M : Type 1} → statement M
 step-spec =
