@@ -1,0 +1,116 @@
+-- TO BE BELIEVED. What reading a sheet answers, and what it leaves in the lent buffer.
+use Prim.Native.Nat.{ℕ, zero, suc, _+_}
+use mathlib.Core.Bool.{Bool, true, false, not, _&&_, _||_}
+use mathlib.Core.List.{List, [], _∷_, _++_}
+use lib.Dec.{eqb, ltb}
+use lib.ListN.{length, getD, take, drop, replicate}
+use Rattle.rules.specs.Stock.{sum}
+use Rattle.rules.specs.Book.{same}
+use Rattle.rules.specs.Neighbours.{places}
+use Rattle.rules.specs.Refusals.{No, fine, when, firstOf, unless, answer, strangerNo, amountNo, stockNos}
+use Rattle.stock.specs.Refused.{refusal}
+use Rattle.walking.specs.Answers.{onward}
+use Rattle.sheets.specs.declared.Readout.{Readout}
+
+-- refusal n at a byte offset, where the test holds
+abbrev pub atByte : ℕ → ℕ → Bool → No
+atByte n at true = (n, at)
+atByte n at false = fine
+
+-- ---- the stock and the strip of a sheet
+
+abbrev pub untilLast : ℕ → List ℕ → List ℕ
+untilLast zero [] = []
+untilLast zero (y ∷ l) = zero ∷ y ∷ l
+untilLast (suc x) l = suc x ∷ l
+
+-- counts to the last one that is not 0
+unfoldable pub used : List ℕ → List ℕ
+used [] = []
+used (x ∷ l) = untilLast x (used l)
+
+unfoldable pub sheetStock : List ℕ → List ℕ
+sheetStock sheet = used (take 16 (drop 1 sheet))
+
+-- the 64 bytes of the strip record
+unfoldable pub stripBody : List ℕ → List ℕ
+stripBody sheet = take 64 (drop 18 sheet)
+
+unfoldable pub sheetStrip : List ℕ → List ℕ
+sheetStrip sheet = take (sum (sheetStock sheet)) (stripBody sheet)
+
+-- ---- the refusals of a record
+
+-- 11: the record at a byte is not of this kind, or its body is cut short
+unfoldable pub recordNo : ℕ → ℕ → ℕ → List ℕ → No
+recordNo kind body at sheet = atByte 11 at (not (eqb (getD sheet at 0) kind) || ltb (length sheet) (at + 1 + body))
+
+-- 11: padding of the strip not zero
+unfoldable pub paddingNo : List ℕ → No
+paddingNo sheet =
+    let rest = drop (sum (sheetStock sheet)) (stripBody sheet) in
+    atByte 11 17 (not (same rest (replicate (length rest) 0)))
+
+-- ---- the moves and the end
+
+-- what the records after the strip come to: the first refusal, the moves, the strip after them
+pub record Followed : Type 0 where
+  pub no : No
+  pub moves : ℕ
+  pub strip : List ℕ
+
+abbrev pub refusedAt : ℕ → ℕ → Followed
+refusedAt n at = record { no = (n, at); moves = 0; strip = [] }
+
+abbrev pub oneMore : Followed → Followed
+oneMore f = record { no = f .no; moves = suc (f .moves); strip = f .strip }
+
+-- the end at a byte: nothing may follow
+abbrev pub ended : List ℕ → ℕ → List ℕ → Followed
+ended s at [] = record { no = fine; moves = 0; strip = s }
+ended s at (x ∷ rest) = refusedAt 11 (at + 1)
+
+abbrev pub ifNext : Bool → ℕ → Followed → Followed
+ifNext true at f = oneMore f
+ifNext false at f = refusedAt 12 at
+
+abbrev pub choice : Bool → Followed → Followed → Followed
+choice true f g = f
+choice false f g = g
+
+-- by the kind of the record at a byte: 3 is a move, 4 an end, any other is 11
+abbrev pub byKind : ℕ → ℕ → Followed → Followed → Followed
+byKind kind at move end = choice (eqb kind 3) move (choice (eqb kind 4) end (refusedAt 11 at))
+
+-- the records from a byte on, the strip s standing: a move is the next one or 12; a record that is missing or cut short is 11
+unfoldable pub follow : List ℕ → List ℕ → ℕ → List ℕ → Followed
+unfolding onward
+follow counts s at [] = refusedAt 11 at
+follow counts s at (kind ∷ []) = byKind kind at (refusedAt 11 at) (ended s at [])
+follow counts s at (kind ∷ p ∷ []) = byKind kind at (refusedAt 11 at) (ended s at (p ∷ []))
+follow counts s at (kind ∷ p ∷ q ∷ rest) =
+    let t = onward counts s 1 in
+    byKind kind at (ifNext (same (places s t) (p ∷ q ∷ [])) at (follow counts t (at + 3) rest)) (ended s at (p ∷ q ∷ rest))
+
+unfoldable pub followed : List ℕ → Followed
+followed sheet = follow (sheetStock sheet) (sheetStrip sheet) 82 (drop 82 sheet)
+
+-- ---- reading: 4; then record by record 11, then 1, 2, 3 in a stock; 11, then 5, 6, then padding in a strip; then the moves and the end
+
+unfoldable pub readNos : List ℕ → List ℕ → List No
+readNos sheet buffer =
+    let counts = sheetStock sheet in
+    let s = sheetStrip sheet in
+    when 4 (ltb (length buffer) 64)
+    ∷ recordNo 1 16 0 sheet
+    ∷ (stockNos counts ++ (recordNo 2 64 17 sheet ∷ strangerNo counts s ∷ amountNo counts s ∷ paddingNo sheet ∷ followed sheet .no ∷ []))
+
+abbrev pub asReadout : No → ℕ → Readout
+asReadout r c = record { refusal = refusal r; moves = c }
+
+unfoldable pub readAnswer : List ℕ → List ℕ → Readout
+readAnswer sheet buffer = answer asReadout (readNos sheet buffer) 0 (followed sheet .moves)
+
+-- the final strip in the first n bytes of the buffer: later bytes stay
+unfoldable pub readBuffer : List ℕ → List ℕ → List ℕ
+readBuffer sheet buffer = unless (firstOf (readNos sheet buffer)) buffer (followed sheet .strip ++ drop (sum (sheetStock sheet)) buffer)

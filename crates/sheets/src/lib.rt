@@ -1,0 +1,16 @@
+// Press sheets: writing and reading them.
+use stock::Refusal;
+
+// What writing answers: the bytes that the sheet takes.
+#[repr(C)]
+pub struct Written {
+    pub refusal: Refusal,
+    pub length: u64,
+}
+
+// What reading answers: the moves of the sheet.
+#[repr(C)]
+pub struct Readout {
+    pub refusal: Refusal,
+    pub moves: u64,
+}
