@@ -1,4 +1,6 @@
-// Press sheets: writing and reading them.
+// Press sheets: writing them, and what the calls on them answer.
+mod records;
+
 use stock::Refusal;
 
 // What writing answers: the bytes that the sheet takes.
