@@ -2,3 +2,4 @@
 mod Copying
 mod Rest
 mod Bodies
+mod Listing

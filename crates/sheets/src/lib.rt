@@ -1,4 +1,5 @@
 // Press sheets: writing them, and what the calls on them answer.
+mod moves;
 mod records;
 
 use stock::Refusal;

@@ -4,6 +4,7 @@ mod Beside
 pub mod OneMove
 pub mod Onward
 pub mod Stepped
+pub mod Walked
 pub mod Called
 pub mod Right
 pub mod Theorems
