@@ -6,11 +6,11 @@ use native.Mathlib.Numerals.{one-add}
 use native.Mathlib.Nat.{sub-zero, zero-sub, suc-sub-suc}
 use native.Mathlib.Omega.{arith}
 use borrow.Rule.Slice.PartMut.{putMid}
-use lib.ListN.{length, getD, drop, set, replicate, length-append, length-replicate}
-use lib.Seq.{drop-drop, drop-nil}
+use lib.ListN.{length, getD, take, drop, set, replicate, length-append, length-replicate}
+use lib.Seq.{take-at}
 use Rattle.rules.specs.Stock.{sum}
 use Rattle.sheets.specs.Sheets.{padded}
-use Rattle.sheets.proofs.Rest.{restOf, put-rest}
+use Rattle.sheets.proofs.Rest.{restOf, more}
 
 -- ---- bytes stored at the front
 
@@ -25,11 +25,11 @@ three-stored (x ∷ y ∷ []) a b c h = absurd (omega arith)
 three-stored (x ∷ y ∷ z ∷ l) a b c h = refl
 
 -- a kind stored, and a body put into the rest behind it
-pub kind-and-body : (l : List ℕ) (kind : ℕ) (body ys : List ℕ) → 1 ≤ length l → ys ≡ body ++ drop (length body) (restOf 1 (set l 0 kind))
-    → putMid 1 (length (set l 0 kind) - 1) (set l 0 kind) ys ≡ (kind ∷ body) ++ drop (suc (length body)) l
-kind-and-body l kind body ys h e =
-    put-rest (set l 0 kind) (kind ∷ []) (drop 1 l) 1 (one-stored l kind h) refl (length body) ys body e
-    ∙ rw (drop-drop (length body) 1 l, one-add (length body))
+pub kind-and-body : (l : List ℕ) (kind : ℕ) (body ys : List ℕ) → length body < length l → length ys ≡ length (restOf 1 (set l 0 kind))
+    → ys ≡ body ++ drop (length body) (restOf 1 (set l 0 kind)) → putMid 1 (length (set l 0 kind) - 1) (set l 0 kind) ys ≡ (kind ∷ body) ++ drop (suc (length body)) l
+kind-and-body l kind body ys h e f =
+    let n : 1 ≤ length l = omega arith in
+    rw (one-add (length body)) at (more l (set l 0 kind) (kind ∷ []) 1 (record { room = n; long = refl; put = one-stored l kind n }) (length body) ys body (omega arith) e f .put)
 
 -- ---- a body with zeros
 
@@ -57,3 +57,8 @@ unfolding sum
 count-below [] i = omega arith
 count-below (c ∷ counts) zero = omega arith
 count-below (c ∷ counts) (suc i) = omega (arith, count-below counts i)
+
+-- what was padded stands at the front
+pub padded-front : (n : ℕ) (l body : List ℕ) → body ≡ padded n l → take (length l) body ≡ l
+unfolding padded
+padded-front n l body e = rw e (take-at l (replicate (n - length l) 0) (length l) refl)

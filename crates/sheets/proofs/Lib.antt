@@ -3,3 +3,4 @@ mod Copying
 mod Rest
 mod Bodies
 mod Listing
+mod Room

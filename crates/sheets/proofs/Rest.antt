@@ -1,26 +1,44 @@
--- Proofs. What is put into the rest of a sheet, said of the whole sheet: it is p ++ t, and the rest that is lent is t, the part from the length of p on.
-use Prim.Native.Nat.{ℕ, _-_}
+-- Proofs. A sheet that is filled from the front: p stands there, at bytes long, and behind it the bytes that were there. What is lent on is the rest.
+use Prim.Native.Nat.{ℕ, _+_, _-_, _≤_}
 use mathlib.Core.Path.{_≡_, sym, ap, _∙_}
 use mathlib.Core.List.{List, [], _++_, append-assoc, append-nil}
 use native.Mathlib.Omega.{arith}
 use borrow.Rule.Slice.PartAt.{part-to-end}
 use borrow.Rule.Slice.PartMut.{putMid}
-use lib.ListN.{length, take, drop, length-drop, drop-of-length-le}
-use lib.Seq.{take-at, drop-at}
+use lib.ListN.{length, take, drop, length-append, length-drop, drop-of-length-le}
+use lib.Seq.{take-at, drop-at, drop-drop}
 
 abbrev pub restOf : ℕ → List ℕ → List ℕ
-restOf at zs = take (length zs - at) (drop at zs)
+restOf at z = take (length z - at) (drop at z)
 
-pub rest-long : (at : ℕ) (zs : List ℕ) → length (restOf at zs) ≡ length zs - at
-rest-long at zs = ap length (part-to-end zs at) ∙ length-drop at zs
+pub rest-long : (at : ℕ) (z : List ℕ) → length (restOf at z) ≡ length z - at
+rest-long at z = ap length (part-to-end z at) ∙ length-drop at z
 
-module _ (zs p t : List ℕ) (at : ℕ) (split : zs ≡ p ++ t) (len : length p ≡ at) where
-  pub rest-is : restOf at zs ≡ t
-  rest-is = part-to-end zs at ∙ ap (drop at) split ∙ drop-at p t at len
+pub record Filled (z₀ z p : List ℕ) (at : ℕ) : Type 0 where
+  pub room : at ≤ length z₀
+  pub long : length p ≡ at
+  pub put : z ≡ p ++ drop at z₀
 
-  -- r is put at the front of the rest, and the rest stays from k on
-  pub put-rest : (k : ℕ) (ys r : List ℕ) → ys ≡ r ++ drop k (restOf at zs) → putMid at (length zs - at) zs ys ≡ (p ++ r) ++ drop k t
-  put-rest k ys r e =
-      let head : take at zs ≡ p = ap (take at) split ∙ take-at p t at len in
-      let none : drop (length zs - at) (drop at zs) ≡ [] = drop-of-length-le (drop at zs) {i = length zs - at} (omega (arith, length-drop at zs)) in
-      rw (head, none, e, rest-is, append-nil) (sym (append-assoc p r (drop k t)))
+-- what is put in front of bytes that stay from k on is k long
+pub first : (z₀ z p : List ℕ) (k : ℕ) → k ≤ length z₀ → length z ≡ length z₀ → z ≡ p ++ drop k z₀ → Filled z₀ z p k
+first z₀ z p k h e f = record { room = h; long = omega (arith, length-append p (drop k z₀), length-drop k z₀, ap length f); put = f }
+
+module _ (z₀ z p : List ℕ) (at : ℕ) (v : Filled z₀ z p at) where
+  pub same-long : length z ≡ length z₀
+  same-long = ap length (v .put) ∙ length-append p (drop at z₀) ∙ omega (arith, v .long, v .room, length-drop at z₀)
+
+  rest-is : restOf at z ≡ drop at z₀
+  rest-is = part-to-end z at ∙ ap (drop at) (v .put) ∙ drop-at p (drop at z₀) at (v .long)
+
+  -- the law of all writers: r is put at the front of the rest, which stays from k on
+  pub more : (k : ℕ) (ys r : List ℕ) → at + k ≤ length z₀ → length ys ≡ length (restOf at z) → ys ≡ r ++ drop k (restOf at z)
+      → Filled z₀ (putMid at (length z - at) z ys) (p ++ r) (at + k)
+  more k ys r h e f =
+      let front : take at z ≡ p = ap (take at) (v .put) ∙ take-at p (drop at z₀) at (v .long) in
+      let none : drop (length z - at) (drop at z) ≡ [] = drop-of-length-le (drop at z) {i = length z - at} (omega (arith, length-drop at z)) in
+      let n : length r ≡ k = first (restOf at z) ys r k (omega (arith, rest-long at z, same-long)) e f .long in
+      record {
+        room = h;
+        long = length-append p r ∙ omega (arith, v .long);
+        put = rw (front, none, f, rest-is, append-nil) (rw (drop-drop k at z₀) (sym (append-assoc p r (drop (at + k) z₀))));
+      }

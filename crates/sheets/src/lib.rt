@@ -1,6 +1,8 @@
 // Press sheets: writing them, and what the calls on them answer.
 mod moves;
 mod records;
+mod sheet;
+pub mod writing;
 
 use stock::Refusal;
 

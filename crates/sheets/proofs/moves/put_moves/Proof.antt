@@ -1,11 +1,11 @@
 -- `sheets::moves::put_moves` meets its contract.
-use Prim.Native.Nat.{_+_, _-_, _^_, _≤_, _<_}
+use Prim.Native.Nat.{_+_, _-_, _≤_}
 use mathlib.Core.Path.{_≡_, sym, _∙_}
 use native.Mathlib.Omega.{arith}
 use lib.ListN.{length}
 use Rattle.walking.specs.Checked.{Checked}
 use Rattle.walking.proofs.Walked.{checked, same-length}
-use Rattle.sheets.proofs.Rest.{rest-long}
+use Rattle.sheets.proofs.Rest.{rest-long, same-long}
 use Rattle.sheets.proofs.Listing.{Listing, start, on, end}
 use Rattle.sheets.proofs.moves.put_moves.Statement.{statement}
 use Rattle.sheets.proofs.moves.put_moves.Tie as tie
@@ -24,12 +24,12 @@ module _ (b : tie.At-loop Inv-loop μ-loop) where
   kept : length (b .loop .strip) ≡ length (b .before .before .before .before .args .strip .now)
   kept = let p = b .before .before .before .before .pre .0 in same-length _ _ _ _ _ (p .stock) (p .strip) (b .loop .inv .1 .walked)
 
-  rest-fits : length (b .loop .rest) < 2 ^ 64
-  rest-fits = rw (b .loop .inv .1 .same) (b .before .before .before .before .good .0 .0)
+  rest-kept : length (b .loop .rest) ≡ length (b .before .before .before .before .args .rest .now)
+  rest-kept = same-long _ _ _ _ (b .loop .inv .1 .filled)
 
 -- in a turn there is room for a record more
-room : (c : tie.In-loop Inv-loop μ-loop) → c .before .loop .at + 3 ≤ length (c .before .loop .rest)
-room c = let v = c .before .loop .inv .1 in omega (arith, v .place, v .same, c .loop-test .taken, c .before .before .before .before .before .pre .2)
+room : (c : tie.In-loop Inv-loop μ-loop) → c .before .loop .at + 3 ≤ length (c .before .before .before .before .before .args .rest .now)
+room c = omega (arith, c .before .loop .inv .1 .place, c .loop-test .taken, c .before .before .before .before .before .pre .2)
 
 loop-again : tie.Need-loop-again Inv-loop μ-loop
 loop-again c =
@@ -39,7 +39,7 @@ loop-again c =
     let p = b .before .before .before .before .pre in
     let l = s .before .before .loop-test .taken in (
       omega arith,
-      on _ _ _ _ _ _ _ _ (b .loop .inv .1) (p .0 .stock) (p .0 .strip) _ _ (s .step .ensures) (omega (arith, p .1)) (omega (arith, p .2)) _ (m .kept .0) (m .ensures),
+      on _ _ _ _ _ _ _ _ (b .loop .inv .1) (p .0 .stock) (p .0 .strip) _ _ (s .step .ensures) (omega (arith, p .1)) (room (s .before .before)) _ (m .kept .0) (m .ensures),
     )
 
 pub put-moves-spec : {M : Type 1} → statement M
@@ -50,14 +50,14 @@ put-moves-spec =
     μ-loop
     (λ c. (omega arith, start _ _ _ _ (c .before .before .before .pre .0)))
     (λ c κs. ready (c .before .before))
-    (λ c. omega (arith, room (c .before .before .before .before)))
-    (λ c. omega (arith, room (c .before .before .before .before)))
+    (λ c. let t = c .before .before .before .before in omega (arith, room t, rest-kept (t .before)))
+    (λ c. let t = c .before .before .before .before in omega (arith, room t, rest-kept (t .before)))
     (λ c. omega arith)
-    (λ c κs. let b = c .before .before .before .before .before .before in omega (arith, rest-long (b .loop .at) (b .loop .rest), room (c .before .before .before .before .before)))
-    (λ c. omega (arith, room (c .before .before .before .before .before .before .before .before .before), rest-fits (c .before .before .before .before .before .before .before .before .before .before)))
+    (λ c κs. let t = c .before .before .before .before .before in omega (arith, rest-long (t .before .loop .at) (t .before .loop .rest), room t, rest-kept (t .before)))
+    (λ c. omega (arith, room (c .before .before .before .before .before .before .before .before .before)))
     (λ c. omega arith)
     (λ c. omega arith)
     loop-again
-    (λ c. c .before .loop .inv .1 .same)
+    (λ c. rest-kept (c .before))
     (λ c. kept (c .before))
     (λ c. end _ _ _ _ _ _ _ _ (c .before .loop .inv .1) _ (c .before .loop .inv .0) (c .loop-test .left)))

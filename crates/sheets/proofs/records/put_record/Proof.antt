@@ -25,7 +25,8 @@ same-length c =
 returns : tie.Need-returns
 returns c =
     let b = c .before .before .before .before .before .before in
-    kind-and-body (b .args .rest .now) (b .args .kind) (b .args .body .now) _ (omega (arith, b .pre)) (c .before .before .put-bytes .ensures)
+    let p = c .before .before .put-bytes in
+    kind-and-body (b .args .rest .now) (b .args .kind) (b .args .body .now) _ (b .pre) (p .kept .0) (p .ensures)
 
 pub put-record-spec : {M : Type 1} → statement M
 put-record-spec =

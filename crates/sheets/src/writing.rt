@@ -1,0 +1,61 @@
+// Writing a sheet: a stock, a strip of it, and so many moves on.
+use crate::Written;
+use crate::moves::has_moves;
+use crate::records::padded_strip;
+use crate::sheet::put_sheet;
+use choose::table;
+use stock::Refusal;
+use stock::check_strip;
+use walker::directions::walker_of;
+ghost use Prim.Native.Nat.{_+_, _*_};
+ghost use mathlib.Core.Path.{_≡_};
+ghost use lib.Dec.{leb};
+ghost use Rattle.sheets.specs.Writing.{writeAnswer, writeSheet};
+
+// Whether so many bytes are the 83 + 3c that c moves need, or more. For c near 2^64 that sum would wrap, so the bytes are divided instead.
+fn has_room(bytes: usize, moves: u64) -> bool
+    ensures { λ r. ⌜ r ≡ leb (83 + 3 * moves) bytes ⌝ }
+{
+    if bytes < 83 {
+        return false;
+    }
+    let most = (bytes - 83) / 3;
+    moves <= most as u64
+}
+
+// The sheet of a stock, a strip and a count of moves, at the front of the lent one; answers its length. Nothing is written before it is known
+// that all the moves are there, so that a refusal leaves the lent sheet as it was.
+pub fn write_sheet(stock: &[u16], strip: &[u8], moves: u64, sheet: &mut [u8]) -> Written
+    ensures { λ r. ⌜ (r ≡ writeAnswer (now (stock .entry)) (now (strip .entry)) moves (now (sheet .entry))) × (now (sheet .exit) ≡ writeSheet (now (stock .entry)) (now (strip .entry)) moves (now (sheet .entry))) ⌝ }
+{
+    let checked = check_strip(stock, strip);
+    let no = checked.no;
+    if no != 0 {
+        return Written {
+            refusal: checked,
+            length: 0,
+        };
+    }
+    if !has_room(sheet.len(), moves) {
+        return Written {
+            refusal: Refusal { no: 13, place: 0 },
+            length: 0,
+        };
+    }
+    let rows = table();
+    let walker = walker_of(&rows, stock, strip);
+    let c = moves as usize;
+    let n = strip.len();
+    let mut word = padded_strip(strip);
+    if !has_moves(stock, &mut word[..n], walker, c) {
+        return Written {
+            refusal: Refusal { no: 9, place: 0 },
+            length: 0,
+        };
+    }
+    put_sheet(sheet, stock, strip, walker, c);
+    Written {
+        refusal: Refusal { no: 0, place: 0 },
+        length: 83 + 3 * moves,
+    }
+}
