@@ -4,3 +4,4 @@ mod Rest
 mod Bodies
 mod Listing
 mod Room
+mod Called
