@@ -1,8 +1,5 @@
-// Press sheets: writing them, and what the calls on them answer.
-mod moves;
-mod records;
-mod sheet;
-pub mod writing;
+// Press sheets: what the calls on them answer, and writing their records.
+pub mod records;
 
 use stock::Refusal;
 

@@ -23,10 +23,6 @@ module _ (counts s : List ℕ) where
   unfolding endNo
   some-left e = elim (ℕ-discrete (left counts s) 0) [ yes z ↦ absurd (omega (arith, ap (λ (r : No). r .0) (rw (eq-eqb (left counts s) 0 z) at e))) | no z ↦ omega arith ]
 
-  pub left-some : 0 < left counts s → endNo false counts s ≡ fine
-  unfolding endNo
-  left-some l = rw (ne-eqb (left counts s) 0 (omega arith))
-
 module _ (counts s : List ℕ) (h : IsStrip counts s) where
   pub onward-none : onward counts s 0 ≡ s
   unfolding onward

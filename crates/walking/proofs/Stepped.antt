@@ -54,9 +54,6 @@ module _ (d : Bool) (counts s : List ℕ) (w : Walker) (c : Checked counts s w) 
       let e = end-some counts s d (λ z. h (no-is ∙ z)) in
       (e, is .1 ∙ rw e)
 
-  pub step-allowed : endNo d counts s ≡ fine → r .refusal .no ≡ 0
-  step-allowed e = no-is ∙ ap (λ (r : No). r .0) e
-
   pub step-made : r .refusal .no ≡ 0 → Step d counts s r t
   unfolding stepAnswer stepStrip
   step-made h =

@@ -5,6 +5,7 @@ use mathlib.Core.Bool.{false}
 use mathlib.Core.List.{List, [], _∷_}
 use native.Mathlib.Numerals.{add-one}
 use native.Mathlib.Omega.{arith}
+use borrow.Author.Tests.{ne-eqb}
 use lib.ListN.{length}
 use Rattle.rules.specs.Stock.{IsStock, IsStrip}
 use Rattle.rules.specs.Neighbours.{places}
@@ -12,10 +13,10 @@ use Rattle.rules.proofs.Strips.{strip-sum}
 use Rattle.walker.specs.declared.Walker.{Walker}
 use Rattle.walker.specs.Walkers.{walkerOf}
 use Rattle.walking.specs.declared.Moved.{Moved}
-use Rattle.walking.specs.Answers.{onward, left}
+use Rattle.walking.specs.Answers.{onward, left, endNo}
 use Rattle.walking.specs.Checked.{Checked, stepAnswer, stepStrip}
-use Rattle.walking.proofs.Onward.{none-left, some-left, left-some, onward-none, onward-strip, onward-left, onward-beside}
-use Rattle.walking.proofs.Stepped.{Step, step-refused, step-made, step-allowed}
+use Rattle.walking.proofs.Onward.{none-left, some-left, onward-none, onward-strip, onward-left, onward-beside}
+use Rattle.walking.proofs.Stepped.{Step, step-refused, step-made}
 
 pub record Walked (counts s t : List ℕ) (w : Walker) (i : ℕ) : Type 0 where
   pub made : i ≤ left counts s
@@ -40,7 +41,8 @@ module _ (counts s t : List ℕ) (w : Walker) (i : ℕ) (k : IsStock counts) (h 
   module _ (r : Moved) (u : List ℕ) (is : (r ≡ stepAnswer false counts t w) × (u ≡ stepStrip false counts t)) where
     -- it is made where a move is left, and else not
     pub allowed : i < left counts s → r .refusal .no ≡ 0
-    allowed l = step-allowed false counts t w checked r u is (left-some counts t (omega (arith, here)))
+    unfolding stepAnswer endNo
+    allowed l = ap (λ (r : Moved). r .refusal .no) (is .0) ∙ rw (ne-eqb (left counts t) 0 (omega (arith, here)))
 
     pub stopped : (r .refusal .no ≡ 0 → ⊥) → (left counts s ≡ i) × (u ≡ t)
     stopped z =

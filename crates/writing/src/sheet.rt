@@ -1,27 +1,15 @@
 // Writing a sheet: a stock, a strip of it, and so many moves on.
-use crate::Written;
 use crate::moves::has_moves;
-use crate::records::padded_strip;
-use crate::sheet::put_sheet;
+use crate::room::has_room;
+use crate::whole::put_sheet;
 use choose::table;
+use sheets::Written;
+use sheets::records::padded_strip;
 use stock::Refusal;
 use stock::check_strip;
 use walker::directions::walker_of;
-ghost use Prim.Native.Nat.{_+_, _*_};
 ghost use mathlib.Core.Path.{_≡_};
-ghost use lib.Dec.{leb};
 ghost use Rattle.sheets.specs.Writing.{writeAnswer, writeSheet};
-
-// Whether so many bytes are the 83 + 3c that c moves need, or more. For c near 2^64 that sum would wrap, so the bytes are divided instead.
-fn has_room(bytes: usize, moves: u64) -> bool
-    ensures { λ r. ⌜ r ≡ leb (83 + 3 * moves) bytes ⌝ }
-{
-    if bytes < 83 {
-        return false;
-    }
-    let most = (bytes - 83) / 3;
-    moves <= most as u64
-}
 
 // The sheet of a stock, a strip and a count of moves, at the front of the lent one; answers its length. Nothing is written before it is known
 // that all the moves are there, so that a refusal leaves the lent sheet as it was.

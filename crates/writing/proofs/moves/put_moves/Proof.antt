@@ -1,14 +1,14 @@
--- `sheets::moves::put_moves` meets its contract.
+-- `writing::moves::put_moves` meets its contract.
 use Prim.Native.Nat.{_+_, _-_, _≤_}
 use mathlib.Core.Path.{_≡_, sym, _∙_}
 use native.Mathlib.Omega.{arith}
 use lib.ListN.{length}
 use Rattle.walking.specs.Checked.{Checked}
 use Rattle.walking.proofs.Walked.{checked, same-length}
 use Rattle.sheets.proofs.Rest.{rest-long, same-long}
-use Rattle.sheets.proofs.Listing.{Listing, start, on, end}
-use Rattle.sheets.proofs.moves.put_moves.Statement.{statement}
-use Rattle.sheets.proofs.moves.put_moves.Tie as tie
+use Rattle.writing.proofs.Listing.{Listing, start, on, end}
+use Rattle.writing.proofs.moves.put_moves.Statement.{statement}
+use Rattle.writing.proofs.moves.put_moves.Tie as tie
 
 abbrev Inv-loop : tie.InvT-loop
 Inv-loop rest₀ stock strip₀ moves walker₀ at₀ made₀ rest strip walker at made = (made ≤ moves) × Listing stock strip₀ rest₀ strip walker rest at made

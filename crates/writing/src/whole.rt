@@ -1,9 +1,9 @@
 // A whole sheet.
 use crate::moves::put_moves;
-use crate::records::padded_strip;
-use crate::records::put_end;
-use crate::records::put_stock;
-use crate::records::put_strip;
+use sheets::records::padded_strip;
+use sheets::records::put_end;
+use sheets::records::put_stock;
+use sheets::records::put_strip;
 use walker::Walker;
 ghost use Prim.Native.Nat.{_+_, _*_, _≤_};
 ghost use mathlib.Core.Path.{_≡_};

@@ -1,4 +1,4 @@
--- `sheets::writing::write_sheet` meets its contract: the checks in the order of its refusals, then the sheet.
+-- `writing::sheet::write_sheet` meets its contract: the checks in the order of its refusals, then the sheet.
 use Prim.Native.Nat.{ℕ, _+_, _*_, _≤_}
 use mathlib.Core.Path.{_≡_, sym, ap, _∙_}
 use mathlib.Core.List.{List}
@@ -14,10 +14,10 @@ use Rattle.rules.proofs.Checks.{accepted-both}
 use Rattle.stock.proofs.Tested.{passed}
 use Rattle.walking.specs.Answers.{left}
 use Rattle.walking.specs.Checked.{Checked}
 use Rattle.sheets.proofs.Bodies.{padded-long, padded-front}
-use Rattle.sheets.proofs.Called.{refused, no-room, fewer, written}
-use Rattle.sheets.proofs.writing.write_sheet.Statement.{statement}
-use Rattle.sheets.proofs.writing.write_sheet.Tie as tie
+use Rattle.writing.proofs.Called.{refused, no-room, fewer, written}
+use Rattle.writing.proofs.sheet.write_sheet.Statement.{statement}
+use Rattle.writing.proofs.sheet.write_sheet.Tie as tie
 
 returns : tie.Need-returns
 returns c = refused _ _ _ _ _ (c .before .check-strip .ensures) (c .if1 .taken)

@@ -1,4 +1,4 @@
--- `sheets::moves::has_moves` meets its contract. The invariant: the walk has made so many moves.
+-- `writing::moves::has_moves` meets its contract. The invariant: the walk has made so many moves.
 use Prim.Native.Nat.{_-_, _≤_}
 use mathlib.Core.Path.{_≡_, sym, _∙_}
 use native.Mathlib.Omega.{arith}
@@ -7,8 +7,8 @@ use lib.ListN.{length}
 use Rattle.walking.specs.Answers.{left}
 use Rattle.walking.specs.Checked.{Checked}
 use Rattle.walking.proofs.Walked.{Walked, start, checked, same-length, stopped, on}
-use Rattle.sheets.proofs.moves.has_moves.Statement.{statement}
-use Rattle.sheets.proofs.moves.has_moves.Tie as tie
+use Rattle.writing.proofs.moves.has_moves.Statement.{statement}
+use Rattle.writing.proofs.moves.has_moves.Tie as tie
 
 abbrev Inv-loop : tie.InvT-loop
 Inv-loop stock strip₀ moves walker₀ made₀ strip walker made = (made ≤ moves) × Walked stock strip₀ strip walker made

@@ -45,3 +45,7 @@ module _ (counts s rest₀ t : List ℕ) (w : Walker) (rest : List ℕ) (at i : 
       let e : i ≡ c = omega arith in
       let f : at ≡ 3 * c = omega (arith, v .place) in
       rw (e, f) at (v .filled .put)
+
+-- the records of a strip that is the same
+pub of-same : (counts s t z ys : List ℕ) (c : ℕ) → t ≡ s → ys ≡ moveRecords counts t c ++ z → ys ≡ moveRecords counts s c ++ z
+of-same counts s t z ys c e f = rw e at f

@@ -1,5 +1,5 @@
 // The moves of a sheet: the lent strip walks on, and so does its walker.
-use crate::records::put_move;
+use sheets::records::put_move;
 use walker::Walker;
 use walking::stepping::step;
 ghost use Prim.Native.Nat.{_*_, _≤_};

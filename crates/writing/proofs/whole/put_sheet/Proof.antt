@@ -1,4 +1,4 @@
--- `sheets::sheet::put_sheet` meets its contract: the sheet is filled record by record.
+-- `writing::whole::put_sheet` meets its contract: the sheet is filled record by record.
 use Prim.Native.Nat.{ℕ, _+_, _-_, _*_, _≤_}
 use mathlib.Core.Path.{_≡_, sym, ap, _∙_}
 use mathlib.Core.List.{List, _++_, append-assoc}
@@ -7,11 +7,12 @@ use borrow.Author.Needs.{needs}
 use borrow.Rule.Slice.PartMut.{putMid}
 use lib.ListN.{length, take, drop}
 use Rattle.rules.proofs.Strips.{strip-sum}
 use Rattle.sheets.specs.Sheets.{stockRecord, stripRecord, moveRecords, endRecord, sheetOf}
-use Rattle.sheets.proofs.Rest.{restOf, Filled, first, more, rest-long, same-long}
+use Rattle.sheets.proofs.Rest.{Filled, first, more, rest-long, same-long}
 use Rattle.sheets.proofs.Bodies.{padded-long, padded-front}
-use Rattle.sheets.proofs.sheet.put_sheet.Statement.{statement}
-use Rattle.sheets.proofs.sheet.put_sheet.Tie as tie
+use Rattle.writing.proofs.Listing.{of-same}
+use Rattle.writing.proofs.whole.put_sheet.Statement.{statement}
+use Rattle.writing.proofs.whole.put_sheet.Tie as tie
 
 -- the strip is no longer than its record's body
 short : (c : tie.Start) → length (c .args .strip .now) ≤ 64
@@ -68,9 +69,8 @@ module _ (c : tie.After-put-moves) where
       Filled (a .sheet .now) with-moves ((stockRecord (a .stock .now) ++ stripRecord (a .strip .now)) ++ moveRecords (a .stock .now) (a .strip .now) (a .moves)) at
   listed =
       let b = begun (one (two three)) in
-      let z = with-strip (two three) in
-      more _ z _ 82 (stripped (two three)) (3 * b .args .moves) (c .put-moves .last .0) (moveRecords (b .args .stock .now) (b .args .strip .now) (b .args .moves)) (omega (arith, b .pre .2)) (c .put-moves .kept .0)
-      (c .put-moves .ensures ∙ ap (λ (s : List ℕ). moveRecords (b .args .stock .now) s (b .args .moves) ++ drop (3 * b .args .moves) (restOf 82 z)) (own three))
+      more _ _ _ 82 (stripped (two three)) (3 * b .args .moves) (c .put-moves .last .0) _ (omega (arith, b .pre .2)) (c .put-moves .kept .0)
+      (of-same _ _ _ _ _ _ (own three) (c .put-moves .ensures))
 
 -- and its end
 module _ (c : tie.After-put-end) where

@@ -1,0 +1,5 @@
+// Writing a press sheet.
+mod moves;
+mod room;
+pub mod sheet;
+mod whole;
