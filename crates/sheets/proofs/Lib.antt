@@ -2,3 +2,4 @@
 mod Copying
 pub mod Rest
 pub mod Bodies
+pub mod Lengths

@@ -2,3 +2,4 @@
 mod Divided
 mod Listing
 mod Called
+pub mod Theorems

@@ -1,0 +1,44 @@
+-- Proofs. How long the records of a sheet are: 83 bytes and 3 a move.
+use Prim.Native.Nat.{ℕ, zero, suc, _+_, _*_, _≤_}
+use mathlib.Core.Path.{_≡_, refl, _∙_}
+use mathlib.Core.Bool.{false}
+use mathlib.Core.List.{List, _∷_, _++_}
+use native.Mathlib.Omega.{arith}
+use lib.ListN.{length, length-append}
+use Rattle.rules.specs.Stock.{IsStock, IsStrip}
+use Rattle.rules.specs.Neighbours.{places}
+use Rattle.rules.proofs.Strips.{strip-sum}
+use Rattle.walker.specs.declared.Walker.{Walker}
+use Rattle.walker.specs.Walkers.{walkerOf}
+use Rattle.walking.specs.Answers.{onward, left}
+use Rattle.walking.specs.Checked.{stepAnswer, stepStrip}
+use Rattle.walking.proofs.Walked.{Walked, allowed, shown}
+use Rattle.sheets.specs.Sheets.{stockRecord, stripRecord, moveRecords, endRecord, sheetOf}
+use Rattle.sheets.proofs.Bodies.{padded-long}
+
+module _ (counts s : List ℕ) (k : IsStock counts) (h : IsStrip counts s) where
+  pub moves-long : (c : ℕ) → c ≤ left counts s → length (moveRecords counts s c) ≡ 3 * c
+  unfolding moveRecords
+  moves-long zero l = refl
+  moves-long (suc c) l =
+      let t = onward counts s c in
+      let w = walkerOf counts t in
+      let v : Walked counts s t w c = record { made = omega arith; strip = refl; walker = refl } in
+      let r = stepAnswer false counts t w in
+      let u = stepStrip false counts t in
+      let p = shown counts s t w c k h v r u (refl, refl) (allowed counts s t w c k h v r u (refl, refl) l) in
+      length-append (moveRecords counts s c) (3 ∷ places t (onward counts s (suc c))) ∙ rw p (omega (arith, moves-long c (omega arith)))
+
+  pub sheet-long : (c : ℕ) → c ≤ left counts s → length (sheetOf counts s c) ≡ 83 + 3 * c
+  unfolding sheetOf stockRecord stripRecord
+  sheet-long c l =
+      let m = moveRecords counts s c in
+      omega (
+        arith,
+        length-append (stockRecord counts) (stripRecord s ++ (m ++ endRecord)),
+        length-append (stripRecord s) (m ++ endRecord),
+        length-append m endRecord,
+        moves-long c l,
+        padded-long 16 counts (k .few),
+        padded-long 64 s (omega (arith, strip-sum counts s h, k .short)),
+      )
