@@ -3,3 +3,4 @@ mod Copying
 pub mod Rest
 pub mod Bodies
 pub mod Lengths
+pub mod Called

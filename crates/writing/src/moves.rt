@@ -39,13 +39,13 @@ pub fn put_moves(rest: &mut [u8], stock: &[u16], strip: &mut [u8], walker: Walke
 {
     let mut walker = walker;
     let mut at: usize = 0;
-    let mut made: usize = 0;
-    while made < moves {
+    let mut listed: usize = 0;
+    while listed < moves {
         let m = step(stock, strip, walker, false);
         put_move(&mut rest[at..], m.low, m.high);
         let next = m.walker;
         walker = next;
         at += 3;
-        made += 1;
+        listed += 1;
     }
 }

@@ -11,10 +11,10 @@ use Rattle.writing.proofs.moves.put_moves.Statement.{statement}
 use Rattle.writing.proofs.moves.put_moves.Tie as tie
 
 abbrev Inv-loop : tie.InvT-loop
-Inv-loop rest₀ stock strip₀ moves walker₀ at₀ made₀ rest strip walker at made = (made ≤ moves) × Listing stock strip₀ rest₀ strip walker rest at made
+Inv-loop rest₀ stock strip₀ moves walker₀ at₀ listed₀ rest strip walker at listed = (listed ≤ moves) × Listing stock strip₀ rest₀ strip walker rest at listed
 
 abbrev μ-loop : tie.MeasureT-loop
-μ-loop rest₀ stock strip₀ moves walker₀ at₀ made₀ rest strip walker at made = moves - made
+μ-loop rest₀ stock strip₀ moves walker₀ at₀ listed₀ rest strip walker at listed = moves - listed
 
 -- at the loop's head the strip and the walker are checked, and the strip is as long as it was
 module _ (b : tie.At-loop Inv-loop μ-loop) where

@@ -15,7 +15,7 @@ use Rattle.stock.proofs.Tested.{passed}
 use Rattle.walking.specs.Answers.{left}
 use Rattle.walking.specs.Checked.{Checked}
 use Rattle.sheets.proofs.Bodies.{padded-long, padded-front}
-use Rattle.writing.proofs.Called.{refused, no-room, fewer, written}
+use Rattle.sheets.proofs.Called.{refused, no-room, fewer, written}
 use Rattle.writing.proofs.sheet.write_sheet.Statement.{statement}
 use Rattle.writing.proofs.sheet.write_sheet.Tie as tie
 
@@ -40,7 +40,7 @@ returns-2 : tie.Need-returns-2
 returns-2 c =
     let b = c .before .before in
     let a = begun b .args in
-    no-room _ _ (a .moves) (a .sheet .now) (none-yet b) (leb-false (83 + 3 * a .moves) (length (a .sheet .now)) (sym (c .before .has-room .ensures) ∙ not-true _ (c .if2 .taken)))
+    no-room _ _ (a .moves) (a .sheet .now) (none-yet b) (c .before .has-room .ensures .1 (rw (c .if2 .taken) tt))
 
 -- past 13
 module _ (c : tie.Else2) where
@@ -48,7 +48,7 @@ module _ (c : tie.Else2) where
   checked = c .before .before
 
   room : 83 + 3 * begun checked .args .moves ≤ length (begun checked .args .sheet .now)
-  room = leb-true (83 + 3 * begun checked .args .moves) (length (begun checked .args .sheet .now)) (sym (c .before .has-room .ensures) ∙ not-false _ (c .if2 .left))
+  room = c .before .has-room .ensures .0 (rw (not-false (c .before .has-room .result) (c .if2 .left)) tt)
 
 -- the strip with its walker
 module _ (c : tie.After-walker-of) where
