@@ -1,52 +1,18 @@
-// Prints what Number answers for marked strips and for refused ones, a line for each: the refusal's number and place, and the strip's number.
+// Runs the marked strips of document 01 that are not proved, the marked numbers of 1 2 2, and a strip for each refusal from 1 to 6. A line
+// says the call, what it was lent and what came.
 // Arrays go by value to a function that lends them, since each place that lends an array makes the check of its function longer.
-use io::print_decimal;
-use io::write_all;
-use numbering::number::number;
-ghost use Prim.Native.Nat.{_≤_};
+mod lines;
+mod say;
 
-// A number, and the byte after it.
-fn put(value: u64, after: u8) {
-    print_decimal(1, value);
-    write_all(1, &[after]);
+use counting::first::first;
+
+fn of_1_2_2(blocks: [u8; 5]) {
+    lines::of_number(&[1, 2, 2], &blocks);
 }
 
-fn show(stock: &[u16], strip: &[u8]) {
-    let answer = number(stock, strip);
-    let refusal = answer.refusal;
-    put(refusal.no as u64, b' ');
-    put(refusal.place, b' ');
-    put(answer.number, b'\n');
-}
-
-// Five blocks, for counts 1 2 2.
-fn of_1_2_2(strip: [u8; 5]) {
-    show(&[1, 2, 2], &strip);
-}
-
-// n blocks: 31 of kind `left`, then kind `right`, and kind 3 on the last place.
-fn of_long(stock: [u16; 3], left: u8, right: u8, n: usize)
-    requires { ⌜ (1 ≤ n) × (n ≤ 64) ⌝ }
-{
-    let mut strip: [u8; 64] = [right; 64];
-    let mut i: usize = 0;
-    while i < 31 {
-        strip[i] = left;
-        i += 1;
-    }
-    let last = n - 1;
-    strip[last] = 3;
-    show(&stock, &strip[0..n]);
-}
-
-// The first `kinds` of three counts, with four blocks.
-fn of_counts(counts: [u16; 3], kinds: usize)
-    requires { ⌜ kinds ≤ 3 ⌝ }
-{
-    show(&counts[0..kinds], &[1, 2, 2, 3]);
-}
-
-fn main() {
+// The seven marked numbers, and the two ends of the book.
+fn book_of_1_2_2() {
+    lines::of_count(&[1, 2, 2]);
     of_1_2_2([1, 2, 2, 3, 3]);
     of_1_2_2([1, 2, 3, 3, 2]);
     of_1_2_2([1, 3, 3, 2, 2]);
@@ -54,16 +20,53 @@ fn main() {
     of_1_2_2([3, 3, 2, 1, 2]);
     of_1_2_2([2, 2, 1, 3, 3]);
     of_1_2_2([3, 3, 2, 2, 1]);
-    // The last strip of its book, and a strip of a book of 2^64 strips or more.
-    of_long([30, 31, 1], 2, 1, 62);
-    of_long([31, 31, 1], 1, 2, 63);
-    // Each refusal from 1 to 6; 0 70 has 2 and 3, and 12430 has 5 and 6.
-    of_counts([1, 2, 2], 0);
-    show(&[1; 17], &[]);
-    of_counts([2, 0, 1], 3);
-    of_counts([0, 70, 0], 2);
-    of_counts([65, 0, 0], 1);
-    of_counts([1, 2, 2], 3);
+    lines::of_forward(&[1, 2, 2], &mut [3, 3, 2, 2, 1]);
+    lines::of_back(&[1, 2, 2], &mut [1, 2, 2, 3, 3]);
+}
+
+// One kind, and counts that are refused.
+fn single_kinds() {
+    lines::of_count(&[64]);
+    lines::of_run(&[64], &mut [1; 64], &mut [0; 8]);
+    lines::of_count(&[65]);
+    lines::of_count(&[0, 70]);
+}
+
+// The book of 30 31 1, which has nearly 2^64 strips.
+fn long_book(stock: &[u16], front: &mut [u8], last: &mut [u8]) {
+    lines::of_count(stock);
+    lines::of_strip(stock, 14428278950913093727, last);
+    lines::of_number(stock, last);
+    first(stock, front);
+    lines::of_distance(stock, front, last);
+}
+
+// The book of 31 31 1, which has 2^64 strips or more.
+fn longer_book(stock: &[u16], blocks: &mut [u8]) {
+    lines::of_count(stock);
+    first(stock, blocks);
+    lines::of_number(stock, blocks);
+    lines::of_forward(stock, blocks);
+}
+
+// Number with each refusal from 1 to 6: 0 70 has 2 and 3, and 12430 has 5 and 6.
+fn refused() {
+    lines::of_number(&[], &[1, 2, 2, 3]);
+    lines::of_number(&[1; 17], &[1, 2, 2, 3]);
+    lines::of_number(&[2, 0, 1], &[1, 2, 2, 3]);
+    lines::of_number(&[0, 70], &[1, 2, 2, 3]);
+    lines::of_number(&[65], &[1, 2, 2, 3]);
+    lines::of_number(&[1, 2, 2], &[1, 2, 2, 3]);
     of_1_2_2([1, 2, 4, 3, 0]);
     of_1_2_2([1, 2, 3, 3, 3]);
+}
+
+fn main() {
+    book_of_1_2_2();
+    single_kinds();
+    long_book(&[30, 31, 1], &mut [0; 62], &mut [0; 62]);
+    longer_book(&[31, 31, 1], &mut [0; 63]);
+    lines::of_count(&[3, 3, 3, 3, 3]);
+    lines::of_count(&[2, 3, 5, 2, 3]);
+    refused();
 }
