@@ -1,38 +1,26 @@
-// The parts of a printed line.
+// The parts of a printed line: the call with what it is lent, and what came.
 use io::print_decimal;
 use io::write_all;
+use running::run::Ran;
 use stock::Refusal;
+use walking::Moved;
 
-pub fn words(text: &[u8]) {
-    write_all(1, text);
-}
-
-pub fn value(number: u64) {
+// Words, then a number.
+fn said(words: &[u8], number: u64) {
+    write_all(1, words);
     print_decimal(1, number);
 }
 
 fn count(amount: u16) {
-    words(b" ");
-    value(amount as u64);
+    said(b" ", amount as u64);
 }
 
 fn block(kind: u8) {
-    value(kind as u64);
-}
-
-// The call, and the counts that it is lent.
-pub fn call(name: &[u8], stock: &[u16]) {
-    words(name);
-    words(b", counts");
-    let mut i = 0;
-    while i < stock.len() {
-        count(stock[i]);
-        i += 1;
-    }
+    print_decimal(1, kind as u64);
 }
 
 // The blocks, with nothing between.
-pub fn strip(blocks: &[u8]) {
+fn strip(blocks: &[u8]) {
     let mut i = 0;
     while i < blocks.len() {
         block(blocks[i]);
@@ -40,23 +28,83 @@ pub fn strip(blocks: &[u8]) {
     }
 }
 
+// A call and its counts.
+pub fn call(name: &[u8], stock: &[u16]) {
+    write_all(1, name);
+    write_all(1, b", counts");
+    let mut i = 0;
+    while i < stock.len() {
+        count(stock[i]);
+        i += 1;
+    }
+}
+
+// A call, its counts and its strip.
+pub fn call_on(name: &[u8], stock: &[u16], blocks: &[u8]) {
+    call(name, stock);
+    write_all(1, b", strip ");
+    strip(blocks);
+}
+
+// A call, its counts and its number.
+pub fn call_at(name: &[u8], stock: &[u16], number: u64) {
+    call(name, stock);
+    said(b", number ", number);
+}
+
 // The number and the place of a refusal: 0 and 0 where the call was not refused.
 pub fn refusal(refused: Refusal) {
-    words(b": refusal ");
-    value(refused.no as u64);
-    words(b" place ");
-    value(refused.place);
-    words(b"\n");
+    said(b": refusal ", refused.no as u64);
+    said(b" place ", refused.place);
+    write_all(1, b"\n");
 }
 
 // The refusal, or the number where the call was not refused.
-pub fn answer(refused: Refusal, number: u64) {
+pub fn number(refused: Refusal, found: u64) {
     let no = refused.no;
     if no != 0 {
         refusal(refused);
         return;
     }
-    words(b": ");
-    value(number);
-    words(b"\n");
+    said(b": ", found);
+    write_all(1, b"\n");
+}
+
+// The refusal, or the strip.
+pub fn blocks(refused: Refusal, found: &[u8]) {
+    let no = refused.no;
+    if no != 0 {
+        refusal(refused);
+        return;
+    }
+    write_all(1, b": ");
+    strip(found);
+    write_all(1, b"\n");
+}
+
+// The refusal, or the two places.
+pub fn places(moved: Moved) {
+    let refused = moved.refusal;
+    if refused.no != 0 {
+        refusal(refused);
+        return;
+    }
+    said(b": places ", moved.low as u64);
+    said(b" ", moved.high as u64);
+    write_all(1, b"\n");
+}
+
+// The moves made, and yes where the strip is the last.
+pub fn moves(ran: Ran) {
+    let refused = ran.refusal;
+    if refused.no != 0 {
+        refusal(refused);
+        return;
+    }
+    said(b": moves ", ran.moves);
+    if ran.last {
+        write_all(1, b", yes\n");
+        return;
+    }
+    write_all(1, b", no\n");
 }
