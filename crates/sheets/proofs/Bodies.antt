@@ -1,6 +1,6 @@
 -- Proofs. The bytes of a record: its kind, and its body with zeros behind what is copied into it.
 use Prim.Native.Nat.{ℕ, zero, suc, _-_, _≤_, _<_}
-use mathlib.Core.Path.{_≡_, refl, ap, _∙_}
+use mathlib.Core.Path.{_≡_, refl, _∙_}
 use mathlib.Core.List.{List, [], _∷_, _++_}
 use native.Mathlib.Numerals.{one-add}
 use native.Mathlib.Nat.{sub-zero, zero-sub, suc-sub-suc}
@@ -46,6 +46,11 @@ pub padded-long : (n : ℕ) (l : List ℕ) → length l ≤ n → length (padded
 unfolding padded
 padded-long n l h = length-append l (replicate (n - length l) 0) ∙ rw (length-replicate {A = ℕ} (n - length l) 0) (omega arith)
 
+-- what was padded stands at the front
+pub padded-front : (n : ℕ) (l body : List ℕ) → body ≡ padded n l → take (length l) body ≡ l
+unfolding padded
+padded-front n l body e = rw e (take-at l (replicate (n - length l) 0) (length l) refl)
+
 -- a record whose body is l with zeros, n bytes in all
 pub padded-record : (n kind : ℕ) (l body rest put : List ℕ) → length l ≤ n → body ≡ padded n l → put ≡ (kind ∷ body) ++ drop (suc (length body)) rest
     → put ≡ (kind ∷ padded n l) ++ drop (suc n) rest
@@ -57,8 +62,3 @@ unfolding sum
 count-below [] i = omega arith
 count-below (c ∷ counts) zero = omega arith
 count-below (c ∷ counts) (suc i) = omega (arith, count-below counts i)
-
--- what was padded stands at the front
-pub padded-front : (n : ℕ) (l body : List ℕ) → body ≡ padded n l → take (length l) body ≡ l
-unfolding padded
-padded-front n l body e = rw e (take-at l (replicate (n - length l) 0) (length l) refl)

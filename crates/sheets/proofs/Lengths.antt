@@ -8,7 +8,6 @@ use lib.ListN.{length, length-append}
 use Rattle.rules.specs.Stock.{IsStock, IsStrip}
 use Rattle.rules.specs.Neighbours.{places}
 use Rattle.rules.proofs.Strips.{strip-sum}
-use Rattle.walker.specs.declared.Walker.{Walker}
 use Rattle.walker.specs.Walkers.{walkerOf}
 use Rattle.walking.specs.Answers.{onward, left}
 use Rattle.walking.specs.Checked.{stepAnswer, stepStrip}

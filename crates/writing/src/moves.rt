@@ -11,7 +11,7 @@ ghost use Rattle.walking.specs.Answers.{left};
 ghost use Rattle.walking.specs.Checked.{Checked};
 ghost use Rattle.sheets.specs.Sheets.{moveRecords};
 
-// Whether so many moves on are left. The walk may be longer than any number of 64 bits, so it is made and not reckoned.
+// Whether so many moves on are left. How many there are may not fit 64 bits, so the strip walks them.
 pub fn has_moves(stock: &[u16], strip: &mut [u8], walker: Walker, moves: usize) -> bool
     requires { ⌜ Checked (now stock) (now strip) walker ⌝ }
     ensures { λ r. ⌜ r ≡ leb moves (left (now (stock .entry)) (now (strip .entry))) ⌝ }

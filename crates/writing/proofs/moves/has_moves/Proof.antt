@@ -30,7 +30,7 @@ returns c =
     let b = s .before .before .before in
     let p = b .before .before .before .pre in
     let a = b .before .before .before .args in
-    let e = stopped _ _ _ _ _ (p .stock) (p .strip) (b .loop .inv .1) _ _ (s .step .ensures) (c .if1 .taken) in
+    let e = stopped _ _ _ _ _ (p .stock) (p .strip) (b .loop .inv .1) _ _ (s .step .ensures) (omega arith) in
     sym (lt-leb (a .moves) (left (a .stock .now) (a .strip .now)) (omega (arith, e .0, s .before .before .loop-test .taken)))
 
 returns-2 : tie.Need-returns-2 Inv-loop μ-loop
@@ -43,7 +43,7 @@ loop-again c =
     let s = c .before .before .before .before .before in
     let b = s .before .before .before in
     let p = b .before .before .before .pre in
-    (omega (arith, s .before .before .loop-test .taken), on _ _ _ _ _ (p .stock) (p .strip) (b .loop .inv .1) _ _ (s .step .ensures) (c .before .if1 .left))
+    (omega (arith, s .before .before .loop-test .taken), on _ _ _ _ _ (p .stock) (p .strip) (b .loop .inv .1) _ _ (s .step .ensures) (omega arith))
 
 pub has-moves-spec : {M : Type 1} → statement M
 has-moves-spec =

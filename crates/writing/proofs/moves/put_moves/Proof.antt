@@ -1,6 +1,6 @@
--- `writing::moves::put_moves` meets its contract.
+-- `writing::moves::put_moves` meets its contract. The invariant: the walk has made so many moves, and their records stand at the front of the rest.
 use Prim.Native.Nat.{_+_, _-_, _≤_}
-use mathlib.Core.Path.{_≡_, sym, _∙_}
+use mathlib.Core.Path.{_≡_}
 use native.Mathlib.Omega.{arith}
 use lib.ListN.{length}
 use Rattle.walking.specs.Checked.{Checked}
@@ -39,7 +39,7 @@ loop-again c =
     let p = b .before .before .before .before .pre in
     let l = s .before .before .loop-test .taken in (
       omega arith,
-      on _ _ _ _ _ _ _ _ (b .loop .inv .1) (p .0 .stock) (p .0 .strip) _ _ (s .step .ensures) (omega (arith, p .1)) (room (s .before .before)) _ (m .kept .0) (m .ensures),
+      on _ _ _ _ _ _ _ _ (b .loop .inv .1) (p .0 .stock) (p .0 .strip) _ _ (s .step .ensures) (omega (arith, l, p .1)) (room (s .before .before)) _ (m .kept .0) (m .ensures),
     )
 
 pub put-moves-spec : {M : Type 1} → statement M

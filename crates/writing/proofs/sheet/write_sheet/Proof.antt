@@ -20,7 +20,7 @@ use Rattle.writing.proofs.sheet.write_sheet.Statement.{statement}
 use Rattle.writing.proofs.sheet.write_sheet.Tie as tie
 
 returns : tie.Need-returns
-returns c = refused _ _ _ _ _ (c .before .check-strip .ensures) (c .if1 .taken)
+returns c = refused _ _ _ _ _ (c .before .check-strip .ensures) (omega arith)
 
 -- past 1 to 6
 module _ (c : tie.Else1) where
@@ -28,7 +28,7 @@ module _ (c : tie.Else1) where
   begun = c .before .before .before .before .before
 
   none-yet : firstOf (checkNos (begun .args .stock .now) (begun .args .strip .now)) .0 ≡ 0
-  none-yet = passed _ _ (c .before .check-strip .ensures) (c .if1 .left)
+  none-yet = passed _ _ (c .before .check-strip .ensures) (omega arith)
 
   both : IsStock (begun .args .stock .now) × IsStrip (begun .args .stock .now) (begun .args .strip .now)
   both = accepted-both _ _ none-yet
