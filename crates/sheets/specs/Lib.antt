@@ -1,4 +1,3 @@
--- TO BE BELIEVED: what a press sheet is, and what writing and reading one answer.
+-- TO BE BELIEVED: what a press sheet is, and what writing one answers.
 pub mod Sheets
 pub mod Writing
-pub mod Reading

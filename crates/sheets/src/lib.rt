@@ -9,10 +9,3 @@ pub struct Written {
     pub refusal: Refusal,
     pub length: u64,
 }
-
-// What reading answers: the moves of the sheet.
-#[repr(C)]
-pub struct Readout {
-    pub refusal: Refusal,
-    pub moves: u64,
-}

@@ -10,7 +10,7 @@ use Rattle.rules.specs.Neighbours.{places}
 use Rattle.rules.specs.Refusals.{No, fine, when, firstOf, unless, answer, strangerNo, amountNo, stockNos}
 use Rattle.stock.specs.Refused.{refusal}
 use Rattle.walking.specs.Answers.{onward}
-use Rattle.sheets.specs.declared.Readout.{Readout}
+use Rattle.reading.specs.declared.Readout.{Readout}
 
 -- refusal n at a byte offset, where the test holds
 abbrev pub atByte : ℕ → ℕ → Bool → No

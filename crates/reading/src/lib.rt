@@ -1,0 +1,11 @@
+// Reading press sheets.
+mod records;
+
+use stock::Refusal;
+
+// What reading answers: the moves of the sheet.
+#[repr(C)]
+pub struct Readout {
+    pub refusal: Refusal,
+    pub moves: u64,
+}
