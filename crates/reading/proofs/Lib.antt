@@ -1,2 +1,4 @@
 -- Proofs: nobody needs to read these to know what holds.
 mod RecordLaws
+mod Checking
+mod Beginning

@@ -7,7 +7,7 @@ use native.Mathlib.Numerals.{add-one}
 use native.Mathlib.Omega.{arith}
 use borrow.Author.Tests.{eq-eqb, ne-eqb, lt-ltb, le-ltb}
 use lib.ListN.{length, getD, take, drop, set, replicate, length-append, length-take, drop-of-length-le}
-use lib.Seq.{drop-cons, take-suc}
+use lib.Seq.{drop-cons, take-suc, length-take-le}
 use Rattle.rules.specs.Book.{same}
 use Rattle.rules.specs.Refusals.{fine}
 use Rattle.reading.specs.Reading.{untilLast, used, recordNo}
@@ -67,8 +67,13 @@ used-prefix (x ∷ l) = go x (used l) (used-prefix l)
     go zero (y ∷ u) e = ap (λ (r : List ℕ). zero ∷ r) e
     go (suc x) u e = ap (λ (r : List ℕ). suc x ∷ r) e
 
-pub used-fits : (l : List ℕ) → length (used l) ≤ length l
-used-fits l = omega (arith, ap length (used-prefix l), length-take (length (used l)) l)
+-- as many kinds as are used, of the counts
+module _ (l : List ℕ) (kinds : ℕ) (is : kinds ≡ length (used l)) where
+  pub used-fits : kinds ≤ length l
+  used-fits = omega (arith, ap length (used-prefix l), length-take (length (used l)) l)
+
+  pub used-long : kinds ≡ length (take kinds l)
+  used-long = sym (length-take-le kinds l used-fits)
 
 -- a loop that looks for it from the end: all counts from `kinds` on are 0
 module _ (l : List ℕ) (last kinds : ℕ) (one : suc last ≡ kinds) (inside : kinds ≤ length l) (is : used l ≡ used (take kinds l)) where

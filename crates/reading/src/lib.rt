@@ -1,4 +1,5 @@
 // Reading press sheets.
+mod opening;
 mod records;
 
 use stock::Refusal;
