@@ -1,55 +1,17 @@
--- TO BE BELIEVED. What reading a sheet answers, and what it leaves in the lent buffer.
-use Prim.Native.Nat.{ℕ, zero, suc, _+_}
-use mathlib.Core.Bool.{Bool, true, false, not, _&&_, _||_}
+-- TO BE BELIEVED. The moves and the end of a sheet; what reading a sheet answers, and what it leaves in the lent buffer.
+use Prim.Native.Nat.{ℕ, suc, _+_}
+use mathlib.Core.Bool.{Bool, true, false}
 use mathlib.Core.List.{List, [], _∷_, _++_}
 use lib.Dec.{eqb, ltb}
-use lib.ListN.{length, getD, take, drop, replicate}
+use lib.ListN.{length, drop}
 use Rattle.rules.specs.Stock.{sum}
 use Rattle.rules.specs.Book.{same}
 use Rattle.rules.specs.Neighbours.{places}
 use Rattle.rules.specs.Refusals.{No, fine, when, firstOf, unless, answer, strangerNo, amountNo, stockNos}
 use Rattle.stock.specs.Refused.{refusal}
 use Rattle.walking.specs.Answers.{onward}
+use Rattle.records.specs.Records.{sheetStock, sheetStrip, recordNo, paddingNo}
 use Rattle.reading.specs.declared.Readout.{Readout}
-
--- refusal n at a byte offset, where the test holds
-abbrev pub atByte : ℕ → ℕ → Bool → No
-atByte n at true = (n, at)
-atByte n at false = fine
-
--- ---- the stock and the strip of a sheet
-
-abbrev pub untilLast : ℕ → List ℕ → List ℕ
-untilLast zero [] = []
-untilLast zero (y ∷ l) = zero ∷ y ∷ l
-untilLast (suc x) l = suc x ∷ l
-
--- counts to the last one that is not 0
-unfoldable pub used : List ℕ → List ℕ
-used [] = []
-used (x ∷ l) = untilLast x (used l)
-
-unfoldable pub sheetStock : List ℕ → List ℕ
-sheetStock sheet = used (take 16 (drop 1 sheet))
-
--- the 64 bytes of the strip record
-unfoldable pub stripBody : List ℕ → List ℕ
-stripBody sheet = take 64 (drop 18 sheet)
-
-unfoldable pub sheetStrip : List ℕ → List ℕ
-sheetStrip sheet = take (sum (sheetStock sheet)) (stripBody sheet)
-
--- ---- the refusals of a record
-
--- 11: the record at a byte is not of this kind, or its body is cut short
-unfoldable pub recordNo : ℕ → ℕ → ℕ → List ℕ → No
-recordNo kind body at sheet = atByte 11 at (not (eqb (getD sheet at 0) kind) || ltb (length sheet) (at + 1 + body))
-
--- 11: padding of the strip not zero
-unfoldable pub paddingNo : List ℕ → No
-paddingNo sheet =
-    let rest = drop (sum (sheetStock sheet)) (stripBody sheet) in
-    atByte 11 17 (not (same rest (replicate (length rest) 0)))
 
 -- ---- the moves and the end
 

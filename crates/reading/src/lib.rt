@@ -1,7 +1,4 @@
 // Reading press sheets.
-mod opening;
-mod records;
-
 use stock::Refusal;
 
 // What reading answers: the moves of the sheet.

@@ -1,11 +1,11 @@
--- `reading::records::check_record` meets its contract, case by case.
+-- `records::bodies::check_record` meets its contract, case by case.
 use mathlib.Core.Path.{ap}
 use native.Mathlib.Omega.{arith}
 use borrow.Author.Needs.{needs}
 use Rattle.stock.specs.Refused.{refusal}
-use Rattle.reading.proofs.RecordLaws.{record-short, record-other, record-there}
-use Rattle.reading.proofs.records.check_record.Statement.{statement}
-use Rattle.reading.proofs.records.check_record.Tie as tie
+use Rattle.records.proofs.BodyLaws.{record-short, record-other, record-there}
+use Rattle.records.proofs.bodies.check_record.Statement.{statement}
+use Rattle.records.proofs.bodies.check_record.Tie as tie
 
 pub check-record-spec : {M : Type 1} → statement M
 check-record-spec =

@@ -10,7 +10,7 @@ use lib.ListN.{length, getD, take, drop, set, replicate, length-append, length-t
 use lib.Seq.{drop-cons, take-suc, length-take-le}
 use Rattle.rules.specs.Book.{same}
 use Rattle.rules.specs.Refusals.{fine}
-use Rattle.reading.specs.Reading.{untilLast, used, recordNo}
+use Rattle.records.specs.Records.{untilLast, used, recordNo}
 
 -- ---- a record at a byte
 

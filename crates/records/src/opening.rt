@@ -1,9 +1,9 @@
 // The records before the moves: one stock, one strip.
-use crate::records::all_zero;
-use crate::records::check_record;
-use crate::records::counts_at;
-use crate::records::lay_in;
-use crate::records::used_kinds;
+use crate::bodies::all_zero;
+use crate::bodies::check_record;
+use crate::bodies::counts_at;
+use crate::bodies::lay_in;
+use crate::bodies::used_kinds;
 use stock::Refusal;
 use stock::blocks;
 use stock::check_stock;
@@ -12,7 +12,7 @@ ghost use mathlib.Core.Path.{_≡_};
 ghost use Rattle.rules.specs.Stock.{IsStock};
 ghost use Rattle.rules.specs.Refusals.{firstOf};
 ghost use Rattle.stock.specs.Refused.{refusal};
-ghost use Rattle.reading.specs.Opened.{stockAtNos, stripAtNos, openingNos, Opened};
+ghost use Rattle.records.specs.Opened.{stockAtNos, stripAtNos, openingNos, Opened};
 
 // What is read before the moves: the counts and how many of them are used, the strip in the first of its bytes and how many they are.
 pub struct Opening {

@@ -15,9 +15,9 @@ use Rattle.rules.proofs.Checks.{length-right, passed-head, accepted, accepted-s
 use Rattle.stock.specs.declared.Refusal.{Refusal}
 use Rattle.stock.specs.Refused.{refusal}
 use Rattle.stock.proofs.Tested.{passed, stopped, stopped-first, passed-next}
-use Rattle.reading.specs.Reading.{atByte, used, recordNo}
-use Rattle.reading.specs.Opened.{stockAt, stripAt, restAt, stockAtNos, stripAtNos}
-use Rattle.reading.proofs.RecordLaws.{zeros, used-prefix, record-short}
+use Rattle.records.specs.Records.{atByte, used, recordNo}
+use Rattle.records.specs.Opened.{stockAt, stripAt, restAt, stockAtNos, stripAtNos}
+use Rattle.records.proofs.BodyLaws.{zeros, used-prefix, record-short}
 
 -- ---- one row with a byte offset
 

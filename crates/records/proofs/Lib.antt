@@ -1,4 +1,4 @@
 -- Proofs: nobody needs to read these to know what holds.
-mod RecordLaws
-mod Checking
-mod Beginning
+pub mod BodyLaws
+pub mod Checking
+pub mod Beginning

@@ -11,11 +11,11 @@ use Rattle.rules.proofs.Checks.{passed-head}
 use Rattle.stock.specs.declared.Refusal.{Refusal}
 use Rattle.stock.specs.Refused.{refusal}
 use Rattle.stock.proofs.Tested.{passed, stopped-first, passed-next}
-use Rattle.reading.specs.declared.opening.Opening.{Opening}
-use Rattle.reading.specs.Reading.{used}
-use Rattle.reading.specs.Opened.{stockAt, stripAt, stockAtNos, stripAtNos, openingNos, heldStock, heldStrip, Opened, Ready}
-use Rattle.reading.proofs.RecordLaws.{used-fits}
-use Rattle.reading.proofs.Checking.{record-fits, counts-held, stock-body, stock-accepted, strip-accepted}
+use Rattle.records.specs.declared.opening.Opening.{Opening}
+use Rattle.records.specs.Records.{used}
+use Rattle.records.specs.Opened.{stockAt, stripAt, stockAtNos, stripAtNos, openingNos, heldStock, heldStrip, Opened, Ready}
+use Rattle.records.proofs.BodyLaws.{used-fits}
+use Rattle.records.proofs.Checking.{record-fits, counts-held, stock-body, stock-accepted, strip-accepted}
 
 module _ (at : ℕ) (sheet : List ℕ) (r : Refusal) (is : r ≡ refusal (firstOf (stockAtNos at sheet))) where
   pub opening-stopped : (r .no ≡ 0 → ⊥) → r ≡ refusal (firstOf (openingNos at sheet))

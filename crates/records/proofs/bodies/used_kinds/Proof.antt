@@ -1,14 +1,14 @@
--- `reading::records::used_kinds` meets its contract. The invariant: the counts that are left decide, the others are 0.
+-- `records::bodies::used_kinds` meets its contract. The invariant: the counts that are left decide, the others are 0.
 use Prim.Native.Nat.{_-_, _≤_}
 use mathlib.Core.Path.{_≡_, refl, sym, ap, _∙_}
 use native.Mathlib.Omega.{arith}
 use lib.ListN.{length, take}
 use lib.Seq.{take-length}
 use borrow.Author.Needs.{needs}
-use Rattle.reading.specs.Reading.{used}
-use Rattle.reading.proofs.RecordLaws.{used-on, used-here}
-use Rattle.reading.proofs.records.used_kinds.Statement.{statement}
-use Rattle.reading.proofs.records.used_kinds.Tie as tie
+use Rattle.records.specs.Records.{used}
+use Rattle.records.proofs.BodyLaws.{used-on, used-here}
+use Rattle.records.proofs.bodies.used_kinds.Statement.{statement}
+use Rattle.records.proofs.bodies.used_kinds.Tie as tie
 
 abbrev Inv-loop : tie.InvT-loop
 Inv-loop counts kinds₀ kinds = (kinds ≤ length counts) × (used counts ≡ used (take kinds counts))

@@ -1,12 +1,12 @@
--- `reading::records::lay_in` meets its contract. The invariant: so many blocks are laid.
+-- `records::bodies::lay_in` meets its contract. The invariant: so many blocks are laid.
 use Prim.Native.Nat.{_≤_, _-_}
 use mathlib.Core.Path.{_≡_, refl, sym, ap, _∙_}
 use native.Mathlib.Omega.{arith}
 use lib.ListN.{length, drop, length-set}
 use lib.Seq.{take-length}
-use Rattle.reading.proofs.RecordLaws.{laid, laid-on}
-use Rattle.reading.proofs.records.lay_in.Statement.{statement}
-use Rattle.reading.proofs.records.lay_in.Tie as tie
+use Rattle.records.proofs.BodyLaws.{laid, laid-on}
+use Rattle.records.proofs.bodies.lay_in.Statement.{statement}
+use Rattle.records.proofs.bodies.lay_in.Tie as tie
 
 abbrev Inv-loop : tie.InvT-loop
 Inv-loop blocks buffer₀ i₀ buffer i = (i ≤ length blocks) × (length buffer ≡ length buffer₀) × (buffer ≡ laid blocks buffer₀ i)

@@ -1,4 +1,4 @@
--- `reading::opening::check_stock_at` meets its contract: the record, then the stock in it.
+-- `records::opening::check_stock_at` meets its contract: the record, then the stock in it.
 use Prim.Native.Nat.{ℕ, _+_, _<_}
 use mathlib.Core.Path.{ap, _∙_}
 use mathlib.Core.List.{List}
@@ -7,11 +7,11 @@ use borrow.Author.Needs.{needs}
 use lib.ListN.{length}
 use Rattle.rules.specs.Refusals.{firstOf, stockNos}
 use Rattle.stock.specs.Refused.{refusal}
-use Rattle.reading.specs.Opened.{stockAt, stockAtNos}
-use Rattle.reading.proofs.RecordLaws.{used-fits, used-long}
-use Rattle.reading.proofs.Checking.{record-stopped, record-passed, record-body, counts-held}
-use Rattle.reading.proofs.opening.check_stock_at.Statement.{statement}
-use Rattle.reading.proofs.opening.check_stock_at.Tie as tie
+use Rattle.records.specs.Opened.{stockAt, stockAtNos}
+use Rattle.records.proofs.BodyLaws.{used-fits, used-long}
+use Rattle.records.proofs.Checking.{record-stopped, record-passed, record-body, counts-held}
+use Rattle.records.proofs.opening.check_stock_at.Statement.{statement}
+use Rattle.records.proofs.opening.check_stock_at.Tie as tie
 
 returns : tie.Need-returns
 unfolding stockAtNos

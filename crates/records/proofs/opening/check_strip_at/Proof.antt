@@ -1,4 +1,4 @@
--- `reading::opening::check_strip_at` meets its contract: the record, then the strip in it, then the bytes after the strip.
+-- `records::opening::check_strip_at` meets its contract: the record, then the strip in it, then the bytes after the strip.
 use Prim.Native.Nat.{ℕ, _+_, _<_}
 use mathlib.Core.Path.{_≡_, sym, ap, _∙_}
 use mathlib.Core.List.{List}
@@ -8,11 +8,11 @@ use lib.ListN.{length}
 use Rattle.rules.specs.Stock.{sum}
 use Rattle.rules.specs.Refusals.{firstOf, stripNos}
 use Rattle.stock.specs.Refused.{refusal}
-use Rattle.reading.specs.Opened.{stripAt, restAt, stripAtNos}
-use Rattle.reading.proofs.RecordLaws.{zeros}
-use Rattle.reading.proofs.Checking.{record-stopped, record-body, strip-part, rest-part, strip-stopped, strip-padded, strip-unpadded}
-use Rattle.reading.proofs.opening.check_strip_at.Statement.{statement}
-use Rattle.reading.proofs.opening.check_strip_at.Tie as tie
+use Rattle.records.specs.Opened.{stripAt, restAt, stripAtNos}
+use Rattle.records.proofs.BodyLaws.{zeros}
+use Rattle.records.proofs.Checking.{record-stopped, record-body, strip-part, rest-part, strip-stopped, strip-padded, strip-unpadded}
+use Rattle.records.proofs.opening.check_strip_at.Statement.{statement}
+use Rattle.records.proofs.opening.check_strip_at.Tie as tie
 
 returns : tie.Need-returns
 unfolding stripAtNos

@@ -8,8 +8,8 @@ use Rattle.rules.specs.Stock.{sum, IsStock, IsStrip}
 use Rattle.rules.specs.Book.{same}
 use Rattle.rules.specs.Refusals.{No, firstOf, strangerNo, amountNo, stockNos}
 use Rattle.stock.specs.Refused.{refusal}
-use Rattle.reading.specs.declared.opening.Opening.{Opening}
-use Rattle.reading.specs.Reading.{atByte, used, recordNo}
+use Rattle.records.specs.declared.opening.Opening.{Opening}
+use Rattle.records.specs.Records.{atByte, used, recordNo}
 
 -- the stock of the record at a byte, and the strip of one for these counts
 unfoldable pub stockAt : ℕ → List ℕ → List ℕ

@@ -1,13 +1,13 @@
--- `reading::records::counts_at` meets its contract. The invariant: so many counts are copied.
+-- `records::bodies::counts_at` meets its contract. The invariant: so many counts are copied.
 use Prim.Native.Nat.{_+_, _-_, _≤_, _<_}
 use mathlib.Core.Path.{_≡_, refl, _∙_}
 use mathlib.Core.List.{append-nil}
 use native.Mathlib.Omega.{arith}
 use lib.ListN.{length, drop, replicate, length-drop}
 use lib.Seq.{getD-drop}
-use Rattle.reading.proofs.RecordLaws.{laid, laid-on}
-use Rattle.reading.proofs.records.counts_at.Statement.{statement}
-use Rattle.reading.proofs.records.counts_at.Tie as tie
+use Rattle.records.proofs.BodyLaws.{laid, laid-on}
+use Rattle.records.proofs.bodies.counts_at.Statement.{statement}
+use Rattle.records.proofs.bodies.counts_at.Tie as tie
 
 abbrev Inv-loop : tie.InvT-loop
 Inv-loop sheet at counts₀ i₀ counts i = (i ≤ 16) × (counts ≡ laid (drop at sheet) (replicate 16 0) i)

@@ -1,11 +1,11 @@
--- `reading::records::all_zero` meets its contract. The invariant: the bytes that are left decide.
+-- `records::bodies::all_zero` meets its contract. The invariant: the bytes that are left decide.
 use Prim.Native.Nat.{_≤_, _-_}
 use mathlib.Core.Path.{_≡_, refl, sym, _∙_}
 use native.Mathlib.Omega.{arith}
 use lib.ListN.{length, drop}
-use Rattle.reading.proofs.RecordLaws.{zeros, zeros-on, zeros-stop, zeros-end}
-use Rattle.reading.proofs.records.all_zero.Statement.{statement}
-use Rattle.reading.proofs.records.all_zero.Tie as tie
+use Rattle.records.proofs.BodyLaws.{zeros, zeros-on, zeros-stop, zeros-end}
+use Rattle.records.proofs.bodies.all_zero.Statement.{statement}
+use Rattle.records.proofs.bodies.all_zero.Tie as tie
 
 abbrev Inv-loop : tie.InvT-loop
 Inv-loop bytes i₀ i = (i ≤ length bytes) × (zeros (drop i bytes) ≡ zeros bytes)

@@ -1,15 +1,15 @@
--- `reading::opening::opening_at` meets its contract: the checks, then what is read.
+-- `records::opening::opening_at` meets its contract: the checks, then what is read.
 use Prim.Native.Nat.{_+_, _<_}
 use mathlib.Core.Path.{_≡_}
 use native.Mathlib.Omega.{arith}
 use borrow.Author.Needs.{needs}
 use lib.ListN.{length}
 use Rattle.stock.proofs.Tested.{passed}
-use Rattle.reading.specs.Opened.{openingNos}
-use Rattle.reading.proofs.RecordLaws.{used-fits, used-long}
-use Rattle.reading.proofs.Beginning.{opening-body, read-none, read-both}
-use Rattle.reading.proofs.opening.opening_at.Statement.{statement}
-use Rattle.reading.proofs.opening.opening_at.Tie as tie
+use Rattle.records.specs.Opened.{openingNos}
+use Rattle.records.proofs.BodyLaws.{used-fits, used-long}
+use Rattle.records.proofs.Beginning.{opening-body, read-none, read-both}
+use Rattle.records.proofs.opening.opening_at.Statement.{statement}
+use Rattle.records.proofs.opening.opening_at.Tie as tie
 
 body : (c : tie.Else1) → let a = c .before .before .before .args in a .at + 81 < length (a .sheet .now)
 body c = let a = c .before .before .before .args in opening-body _ _ (passed (openingNos (a .at) (a .sheet .now)) _ (c .before .check-opening .ensures) (omega arith))

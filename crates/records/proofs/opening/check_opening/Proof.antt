@@ -1,4 +1,4 @@
--- `reading::opening::check_opening` meets its contract: the stock record, then the strip record.
+-- `records::opening::check_opening` meets its contract: the stock record, then the strip record.
 use Prim.Native.Nat.{_+_, _<_}
 use mathlib.Core.Path.{_≡_}
 use native.Mathlib.Omega.{arith}
@@ -6,12 +6,12 @@ use borrow.Author.Needs.{needs}
 use lib.ListN.{length}
 use Rattle.rules.specs.Refusals.{firstOf}
 use Rattle.stock.proofs.Tested.{passed}
-use Rattle.reading.specs.Opened.{stockAt, stockAtNos}
-use Rattle.reading.proofs.RecordLaws.{used-fits, used-long}
-use Rattle.reading.proofs.Checking.{counts-held, stock-body, stock-accepted}
-use Rattle.reading.proofs.Beginning.{opening-stopped, opening-next}
-use Rattle.reading.proofs.opening.check_opening.Statement.{statement}
-use Rattle.reading.proofs.opening.check_opening.Tie as tie
+use Rattle.records.specs.Opened.{stockAt, stockAtNos}
+use Rattle.records.proofs.BodyLaws.{used-fits, used-long}
+use Rattle.records.proofs.Checking.{counts-held, stock-body, stock-accepted}
+use Rattle.records.proofs.Beginning.{opening-stopped, opening-next}
+use Rattle.records.proofs.opening.check_opening.Statement.{statement}
+use Rattle.records.proofs.opening.check_opening.Tie as tie
 
 -- the stock record is accepted
 module _ (c : tie.Else1) where

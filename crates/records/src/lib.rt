@@ -1,0 +1,3 @@
+// The records of a press sheet that come before the moves.
+pub mod bodies;
+pub mod opening;
