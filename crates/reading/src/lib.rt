@@ -1,4 +1,6 @@
 // Reading press sheets.
+mod following;
+
 use stock::Refusal;
 
 // What reading answers: the moves of the sheet.
