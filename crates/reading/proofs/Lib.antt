@@ -2,3 +2,4 @@
 mod Steps
 mod Next
 mod Underway
+mod ReadOn

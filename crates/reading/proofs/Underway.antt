@@ -58,12 +58,14 @@ module _ (counts sheet : List ℕ) (whole : Followed) (t : List ℕ) (w : Walker
 
   -- refused here, whatever the strip
   stop : (n p : ℕ) (u : List ℕ) → follow counts t at (drop at sheet) ≡ refusedAt (suc n) p → Ends whole (asReadout (suc n, p) 0) u
-  stop n p u e = record { answer = rw (v .rest, e); strip = λ z. absurd (omega arith) }
+  stop n p u e = record { answer = rw (v .rest, e); none = λ z. absurd (omega arith); strip = λ z. absurd (omega arith) }
 
   -- the end here, with this after it
   ended-here : (rest : List ℕ) → whole ≡ after i (ended t at rest) → (r : Readout) → r ≡ readoutOf i (ended [] at rest) → Ends whole r t
-  ended-here [] e r is = record { answer = is ∙ rw e (ap (asReadout fine) (omega arith)); strip = λ z. rw e }
-  ended-here (x ∷ rest) e r is = record { answer = is ∙ rw e; strip = λ z. absurd (omega (arith, ap (λ (r : Readout). r .refusal .no) is, z)) }
+  ended-here [] e r is = record { answer = is ∙ rw e (ap (asReadout fine) (omega arith)); none = λ z. rw e; strip = λ z. rw e }
+  ended-here (x ∷ rest) e r is =
+      let no : r .refusal .no ≡ 11 = ap (λ (r : Readout). r .refusal .no) is in
+      record { answer = is ∙ rw e; none = λ z. absurd (omega arith); strip = λ z. absurd (omega arith) }
 
   -- no record here
   pub none : length sheet ≤ at → Ends whole (asReadout (11, at) 0) t

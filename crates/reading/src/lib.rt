@@ -1,5 +1,6 @@
 // Reading press sheets.
 mod following;
+mod moves;
 
 use stock::Refusal;
 

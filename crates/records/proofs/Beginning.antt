@@ -75,8 +75,19 @@ module _ (at : ℕ) (sheet : List ℕ) (r : Refusal) (is : r ≡ refusal (firstO
         let d : s ≡ take 64 (drop (at + 17 + 1) sheet) = e ∙ rw (f, copied (take 64 (drop (at + 18) sheet)) l, g) in
         record {
           refused = is;
-          kinds = omega (arith, used-fits counts kinds k, ap length c, length-take 16 (drop (at + 1) sheet));
-          blocks = omega (arith, blocks-n, stock .short);
+          kinds = used-fits counts kinds k;
+          blocks = omega (arith, blocks-n, stock .short, ap length d, l, ap (λ (i : ℕ). length (take 64 (drop i sheet))) g);
           stock = λ z. counts-held at sheet counts kinds c k;
           strip = λ z. rw (blocks-n, d);
         }
+
+-- what is read can be followed
+pub ready : (at : ℕ) (sheet : List ℕ) (o : Opening) → Opened at sheet o → Ready o
+ready at sheet o r =
+    let none : (z : o .refusal .no ≡ 0) → firstOf (openingNos at sheet) .0 ≡ 0 = passed (openingNos at sheet) (o .refusal) (r .refused) in
+    record {
+      kinds = r .kinds;
+      blocks = r .blocks;
+      stock = λ z. rw (r .stock z) (opening-stock at sheet (none z));
+      strip = λ z. rw (r .stock z, r .strip z) (opening-strip at sheet (none z));
+    }

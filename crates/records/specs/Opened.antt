@@ -47,14 +47,14 @@ heldStrip o = take (o .blocks) (o .strip)
 -- what is read of both records: the refusal, and where there is none, the stock and the strip
 pub record Opened (at : ℕ) (sheet : List ℕ) (o : Opening) : Type 0 where
   pub refused : o .refusal ≡ refusal (firstOf (openingNos at sheet))
-  pub kinds : o .kinds ≤ 16
-  pub blocks : o .blocks ≤ 64
+  pub kinds : o .kinds ≤ length (o .counts)
+  pub blocks : o .blocks ≤ length (o .strip)
   pub stock : o .refusal .no ≡ 0 → heldStock o ≡ stockAt at sheet
   pub strip : o .refusal .no ≡ 0 → heldStrip o ≡ stripAt (stockAt at sheet) (at + 17) sheet
 
 -- what is read can be followed: where there is no refusal, an accepted stock and a strip of it
 pub record Ready (o : Opening) : Type 0 where
-  pub kinds : o .kinds ≤ 16
-  pub blocks : o .blocks ≤ 64
+  pub kinds : o .kinds ≤ length (o .counts)
+  pub blocks : o .blocks ≤ length (o .strip)
   pub stock : o .refusal .no ≡ 0 → IsStock (heldStock o)
   pub strip : o .refusal .no ≡ 0 → IsStrip (heldStock o) (heldStrip o)
