@@ -3,3 +3,4 @@ mod Steps
 mod Next
 mod Underway
 mod ReadOn
+mod Joined

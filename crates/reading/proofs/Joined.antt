@@ -1,0 +1,90 @@
+-- Proofs. What is read before the moves, and then the moves from byte 82 on, come to what reading answers.
+use Prim.Native.Nat.{ℕ, _+_}
+use mathlib.Core.Path.{_≡_, refl, sym, ap, _∙_}
+use mathlib.Core.List.{List, [], _∷_, _++_}
+use native.Mathlib.Decide.{ℕ-discrete}
+use native.Mathlib.Omega.{arith}
+use lib.Dec.{ltb}
+use lib.ListN.{length, drop}
+use Rattle.rules.specs.Stock.{sum}
+use Rattle.rules.specs.Refusals.{No, when, orNext, firstOf, unless, stockNos}
+use Rattle.rules.proofs.Strips.{strip-sum}
+use Rattle.rules.proofs.Refusals.{refused-first, passed-first, unless-refused}
+use Rattle.rules.proofs.Checks.{passed-head}
+use Rattle.stock.specs.declared.Refusal.{Refusal}
+use Rattle.records.specs.declared.opening.Opening.{Opening}
+use Rattle.records.specs.Records.{sheetStock, stripBody, sheetStrip, paddingNo}
+use Rattle.records.specs.Opened.{stockAt, stripAt, restAt, stockAtNos, stripAtNos, openingNos, heldStock, heldStrip, Opened}
+use Rattle.records.proofs.Beginning.{opening-strip}
+use Rattle.reading.specs.Reading.{Followed, follow, followed, readNos, readAnswer, readBuffer, asReadout}
+use Rattle.reading.specs.Ends.{followedAt, movesNos, movesAnswer, movesBuffer}
+use Rattle.reading.proofs.ReadOn.{first-stopped, first-passed}
+
+-- reading's refusals: 4, those of the records before the moves, and that of the moves and the end
+pub read-rows : (sheet buffer : List ℕ) → readNos sheet buffer ≡ when 4 (ltb (length buffer) 64) ∷ (openingNos 0 sheet ++ (followed sheet .no ∷ []))
+unfolding readNos openingNos stockAtNos stripAtNos stockNos paddingNo stockAt stripAt restAt sheetStock sheetStrip stripBody
+read-rows sheet buffer = refl
+
+under : (x : No) (xs ys : List No) → firstOf xs ≡ firstOf ys → firstOf (x ∷ xs) ≡ firstOf (x ∷ ys)
+unfolding firstOf
+under x xs ys e = ap (orNext x) e
+
+module _ (sheet buffer : List ℕ) (o : Opening) (r : Opened 0 sheet o) where
+  abbrev before : No
+  before = firstOf (openingNos 0 sheet)
+
+  no-is : o .refusal .no ≡ before .0
+  no-is = ap (λ (r : Refusal). r .no) (r .refused)
+
+  pair-is : _≡_ {A = No} (o .refusal .no, o .refusal .place) before
+  pair-is = ap (λ (r : Refusal). (r .no, r .place)) (r .refused)
+
+  abbrev four : No
+  four = when 4 (ltb (length buffer) 64)
+
+  first-refused : (before .0 ≡ 0 → ⊥) → firstOf (movesNos 82 sheet o buffer) ≡ firstOf (readNos sheet buffer)
+  unfolding movesNos
+  first-refused h =
+      rw (read-rows sheet buffer, pair-is)
+      (under four (before ∷ followedAt 82 sheet o .no ∷ []) (openingNos 0 sheet ++ (followed sheet .no ∷ [])) (first-stopped before (followedAt 82 sheet o .no ∷ []) h ∙ sym (refused-first (openingNos 0 sheet) (followed sheet .no ∷ []) h)))
+
+  still-refused : (before .0 ≡ 0 → ⊥) → firstOf (readNos sheet buffer) .0 ≡ 0 → ⊥
+  still-refused h z =
+      h (sym (ap (λ (r : No). r .0) (refused-first (openingNos 0 sheet) (followed sheet .no ∷ []) h)) ∙ passed-head four _ (rw (read-rows sheet buffer) at z) .1)
+
+  module _ (none : before .0 ≡ 0) where
+    same-followed : followedAt 82 sheet o ≡ followed sheet
+    unfolding followedAt followed stockAt stripAt sheetStock sheetStrip stripBody
+    same-followed =
+        let z : o .refusal .no ≡ 0 = no-is ∙ none in
+        rw (r .stock z, r .strip z)
+
+    same-first : firstOf (movesNos 82 sheet o buffer) ≡ firstOf (readNos sheet buffer)
+    unfolding movesNos
+    same-first =
+        rw (read-rows sheet buffer, pair-is, same-followed)
+        (under four (before ∷ followed sheet .no ∷ []) (openingNos 0 sheet ++ (followed sheet .no ∷ [])) (first-passed before (followed sheet .no ∷ []) none ∙ sym (passed-first (openingNos 0 sheet) (followed sheet .no ∷ []) none)))
+
+    same-length : length (heldStrip o) ≡ sum (sheetStock sheet)
+    unfolding stockAt sheetStock
+    same-length =
+        let z : o .refusal .no ≡ 0 = no-is ∙ none in
+        ap length (r .strip z) ∙ strip-sum _ _ (opening-strip 0 sheet none)
+
+  pub same-answer : movesAnswer 82 sheet o buffer ≡ readAnswer sheet buffer
+  unfolding movesAnswer readAnswer
+  same-answer = elim (ℕ-discrete (before .0) 0) [
+    | yes z ↦ rw (same-first z, same-followed z)
+    | no z ↦
+        let k = still-refused z in
+        rw (first-refused z) (ap (asReadout (firstOf (readNos sheet buffer))) (unless-refused 0 _ _ k ∙ sym (unless-refused 0 _ _ k)))
+  ]
+
+  pub same-buffer : movesBuffer 82 sheet o buffer ≡ readBuffer sheet buffer
+  unfolding movesBuffer readBuffer
+  same-buffer = elim (ℕ-discrete (before .0) 0) [
+    | yes z ↦ rw (same-first z, same-followed z, same-length z)
+    | no z ↦
+        let k = still-refused z in
+        rw (first-refused z) (unless-refused buffer _ _ k ∙ sym (unless-refused buffer _ _ k))
+  ]
