@@ -1,6 +1,7 @@
 // Reading press sheets.
 mod following;
 mod moves;
+pub mod reader;
 
 use stock::Refusal;
 
