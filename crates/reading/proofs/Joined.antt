@@ -16,8 +16,9 @@ use Rattle.records.specs.declared.opening.Opening.{Opening}
 use Rattle.records.specs.Records.{sheetStock, stripBody, sheetStrip, paddingNo}
 use Rattle.records.specs.Opened.{stockAt, stripAt, restAt, stockAtNos, stripAtNos, openingNos, heldStock, heldStrip, Opened}
 use Rattle.records.proofs.Beginning.{opening-strip}
-use Rattle.reading.specs.Reading.{Followed, follow, followed, readNos, readAnswer, readBuffer, asReadout}
-use Rattle.reading.specs.Ends.{followedAt, movesNos, movesAnswer, movesBuffer}
+use Rattle.following.specs.Following.{Followed, follow, asReadout}
+use Rattle.reading.specs.Reading.{followed, readNos, readAnswer, readBuffer}
+use Rattle.reading.specs.Halves.{followedAt, movesNos, movesAnswer, movesBuffer}
 use Rattle.reading.proofs.ReadOn.{first-stopped, first-passed}
 
 -- reading's refusals: 4, those of the records before the moves, and that of the moves and the end

@@ -11,9 +11,10 @@ use Rattle.rules.proofs.Strips.{strip-sum}
 use Rattle.rules.proofs.Refusals.{unless-refused}
 use Rattle.records.specs.declared.opening.Opening.{Opening}
 use Rattle.records.specs.Opened.{heldStock, heldStrip, Ready}
-use Rattle.reading.specs.declared.Readout.{Readout}
-use Rattle.reading.specs.Reading.{Followed, asReadout}
-use Rattle.reading.specs.Ends.{Ends, readoutOf, followedAt, movesNos, movesAnswer, movesBuffer}
+use Rattle.following.specs.declared.Readout.{Readout}
+use Rattle.following.specs.Following.{Followed, asReadout}
+use Rattle.following.specs.Ends.{Ends, readoutOf}
+use Rattle.reading.specs.Halves.{followedAt, movesNos, movesAnswer, movesBuffer}
 
 -- ---- the first of a list
 

@@ -1,3 +1,3 @@
--- What reading a press sheet answers (to be believed), and what the private functions promise.
+-- What reading a press sheet answers (to be believed), and what its second half promises.
 pub mod Reading
-pub mod Ends
+pub mod Halves

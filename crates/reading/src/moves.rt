@@ -1,12 +1,12 @@
 // The records after the strip, and the final strip in the lent buffer.
-use crate::Readout;
-use crate::following::follow_from;
-use crate::following::refused;
+use following::Readout;
+use following::moves::follow_from;
+use following::moves::refused;
 use records::bodies::lay_in;
 use records::opening::Opening;
 ghost use mathlib.Core.Path.{_≡_};
 ghost use Rattle.records.specs.Opened.{Ready};
-ghost use Rattle.reading.specs.Ends.{movesAnswer, movesBuffer};
+ghost use Rattle.reading.specs.Halves.{movesAnswer, movesBuffer};
 
 // Reads on from a byte, where the stock and the strip before it are read: 4, then their refusal, then the moves and the end. The buffer is
 // written only where nothing is refused.

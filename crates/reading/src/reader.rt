@@ -1,13 +1,13 @@
 // The reader of a sheet, which keeps the lent sheet and its own place in one record. The functions over it are thin: each takes it apart and
 // hands the sheet and the place to a function over a slice and a byte.
-use crate::Readout;
 use crate::moves::moves_at;
+use following::Readout;
 use records::opening::Opening;
 use records::opening::opening_at;
 ghost use mathlib.Core.Path.{_≡_};
 ghost use Rattle.records.specs.Opened.{Opened, Ready};
 ghost use Rattle.reading.specs.Reading.{readAnswer, readBuffer};
-ghost use Rattle.reading.specs.Ends.{movesAnswer, movesBuffer};
+ghost use Rattle.reading.specs.Halves.{movesAnswer, movesBuffer};
 
 pub struct Reader<'a> {
     pub sheet: &'a [u8],

@@ -7,7 +7,8 @@ use borrow.Author.Needs.{needs}
 use lib.ListN.{length, take, drop}
 use lib.Seq.{length-take-le}
 use Rattle.records.specs.Opened.{heldStrip}
-use Rattle.reading.specs.Ends.{Ends, followedAt}
+use Rattle.following.specs.Ends.{Ends}
+use Rattle.reading.specs.Halves.{followedAt}
 use Rattle.reading.proofs.ReadOn.{too-small, refused-before, refused-after, read-on, part-fits, part-is, strip-short}
 use Rattle.reading.proofs.moves.moves_at.Statement.{statement}
 use Rattle.reading.proofs.moves.moves_at.Tie as tie

@@ -44,12 +44,12 @@ use Rattle.records.proofs.opening.Opening as S
 use Rattle.records.proofs.opening.Opening.Laws as S′
 use Rattle.records.proofs.Beginning.{ready}
 use Rattle.reading.specs.Reading.{readAnswer, readBuffer}
-use Rattle.reading.specs.Ends.{movesAnswer, movesBuffer}
-use Rattle.reading.specs.declared.Readout.{Readout}
+use Rattle.reading.specs.Halves.{movesAnswer, movesBuffer}
+use Rattle.following.specs.declared.Readout.{Readout}
 use Rattle.reading.specs.declared.reader.Reader.{Reader}
 use Rattle.reading.proofs.Joined.{same-answer, same-buffer}
-use Rattle.reading.proofs.Readout as R
-use Rattle.reading.proofs.Readout.Laws as R′
+use Rattle.following.proofs.Readout as R
+use Rattle.following.proofs.Readout.Laws as R′
 use Rattle.reading.proofs.reader.Reader as T
 use Rattle.reading.proofs.reader.Reader.Laws as T′
 use Rattle.reading.proofs.reader.reader_at as reader-at

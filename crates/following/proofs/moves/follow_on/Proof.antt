@@ -1,4 +1,4 @@
--- `reading::following::follow_on` meets its contract. The invariant: what is left to follow comes to the whole.
+-- `following::moves::follow_on` meets its contract. The invariant: what is left to follow comes to the whole.
 use Prim.Native.Nat.{_-_}
 use mathlib.Core.Path.{_≡_, _∙_}
 use mathlib.Core.Bool.{false}
@@ -7,11 +7,11 @@ use borrow.Author.Needs.{needs}
 use borrow.Author.Tests.{not-true, not-false}
 use lib.ListN.{length, drop}
 use Rattle.walking.specs.Checked.{Checked}
-use Rattle.reading.specs.Reading.{follow, asReadout}
-use Rattle.reading.specs.Ends.{Ends}
-use Rattle.reading.proofs.Underway.{Underway, answered, start, checked, same-strip, none, end, other, short, miss, hit}
-use Rattle.reading.proofs.following.follow_on.Statement.{statement}
-use Rattle.reading.proofs.following.follow_on.Tie as tie
+use Rattle.following.specs.Following.{follow, asReadout}
+use Rattle.following.specs.Ends.{Ends}
+use Rattle.following.proofs.Underway.{Underway, answered, start, checked, same-strip, none, end, other, short, miss, hit}
+use Rattle.following.proofs.moves.follow_on.Statement.{statement}
+use Rattle.following.proofs.moves.follow_on.Tie as tie
 
 abbrev Inv-loop : tie.InvT-loop
 Inv-loop sheet from stock strip₀ walker₀ at₀ moves₀ strip walker at moves = Underway stock sheet (follow stock strip₀ from (drop from sheet)) strip walker at moves

@@ -1,8 +1,8 @@
--- `reading::following::is_move` meets its contract, case by case.
+-- `following::moves::is_move` meets its contract, case by case.
 use native.Mathlib.Omega.{arith}
-use Rattle.reading.proofs.Next.{test-refused, test-low, test-high}
-use Rattle.reading.proofs.following.is_move.Statement.{statement}
-use Rattle.reading.proofs.following.is_move.Tie as tie
+use Rattle.following.proofs.Next.{test-refused, test-low, test-high}
+use Rattle.following.proofs.moves.is_move.Statement.{statement}
+use Rattle.following.proofs.moves.is_move.Tie as tie
 
 returns : tie.Need-returns
 returns c = let m = c .before .before .args .made in test-refused (m .refusal .no) _ _ _ _ (omega arith)

@@ -1,10 +1,10 @@
--- `reading::following::end_at` meets its contract: something follows, or nothing.
+-- `following::moves::end_at` meets its contract: something follows, or nothing.
 use mathlib.Core.Path.{_∙_}
 use native.Mathlib.Omega.{arith}
 use borrow.Author.Needs.{needs}
-use Rattle.reading.proofs.Steps.{end-more, end-last}
-use Rattle.reading.proofs.following.end_at.Statement.{statement}
-use Rattle.reading.proofs.following.end_at.Tie as tie
+use Rattle.following.proofs.Steps.{end-more, end-last}
+use Rattle.following.proofs.moves.end_at.Statement.{statement}
+use Rattle.following.proofs.moves.end_at.Tie as tie
 
 returns : tie.Need-returns
 returns c =

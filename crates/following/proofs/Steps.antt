@@ -13,8 +13,8 @@ use Rattle.rules.specs.Book.{same}
 use Rattle.rules.specs.Neighbours.{places}
 use Rattle.rules.specs.Refusals.{fine}
 use Rattle.walking.specs.Answers.{onward}
-use Rattle.reading.specs.Reading.{Followed, refusedAt, oneMore, ended, ifNext, choice, follow, asReadout}
-use Rattle.reading.specs.Ends.{readoutOf}
+use Rattle.following.specs.Following.{Followed, refusedAt, oneMore, ended, ifNext, choice, follow, asReadout}
+use Rattle.following.specs.Ends.{readoutOf}
 
 -- ---- by the first byte of what is left
 

@@ -15,8 +15,8 @@ ghost use lib.ListN.{length, drop};
 ghost use Rattle.rules.specs.Stock.{IsStock, IsStrip};
 ghost use Rattle.rules.specs.Book.{same};
 ghost use Rattle.walking.specs.Checked.{Checked};
-ghost use Rattle.reading.specs.Reading.{ended, follow, asReadout};
-ghost use Rattle.reading.specs.Ends.{readoutOf, Ends};
+ghost use Rattle.following.specs.Following.{ended, follow, asReadout};
+ghost use Rattle.following.specs.Ends.{readoutOf, Ends};
 
 // A reading that is refused.
 pub fn refused(no: u8, at: usize) -> Readout

@@ -16,11 +16,11 @@ use Rattle.walking.specs.declared.Moved.{Moved}
 use Rattle.walking.specs.Answers.{onward, beside}
 use Rattle.walking.specs.Checked.{Checked, stepAnswer, stepStrip}
 use Rattle.walking.proofs.Stepped.{Step}
-use Rattle.reading.specs.declared.Readout.{Readout}
-use Rattle.reading.specs.Reading.{Followed, refusedAt, oneMore, ended, ifNext, follow, asReadout}
-use Rattle.reading.specs.Ends.{readoutOf, Ends}
-use Rattle.reading.proofs.Steps.{at-none, at-end, at-other, at-short, at-move}
-use Rattle.reading.proofs.Next.{next-yes, next-no}
+use Rattle.following.specs.declared.Readout.{Readout}
+use Rattle.following.specs.Following.{Followed, refusedAt, oneMore, ended, ifNext, follow, asReadout}
+use Rattle.following.specs.Ends.{readoutOf, Ends}
+use Rattle.following.proofs.Steps.{at-none, at-end, at-other, at-short, at-move}
+use Rattle.following.proofs.Next.{next-yes, next-no}
 
 -- i moves before what follows
 abbrev pub after : ℕ → Followed → Followed
