@@ -1,0 +1,10 @@
+-- Proofs: nobody needs to read these to know what holds.
+mod Decimals
+mod Putting
+mod Parts
+mod Written
+pub mod Lengths
+mod Taking
+mod ReadOn
+mod Readings
+pub mod Theorems
