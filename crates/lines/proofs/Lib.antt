@@ -6,5 +6,5 @@ mod Written
 pub mod Lengths
 mod Taking
 mod ReadOn
-mod Readings
+pub mod Readings
 pub mod Theorems

@@ -40,7 +40,7 @@ pub record LineRight (input : List ℕ) (r : LineRead) : Type 0 where
   pub read : (counts : List ℕ) → Readable counts input → r ≡ lineRead (some counts)
   pub unreadable : ((counts : List ℕ) → Readable counts input → ⊥) → r ≡ lineRead none
 
-nothing-read : (input : List ℕ) → ((counts : List ℕ) → Readable counts input → ⊥) → (o : Option (List ℕ)) → readCounts input ≡ o → o ≡ none
+pub nothing-read : (input : List ℕ) → ((counts : List ℕ) → Readable counts input → ⊥) → (o : Option (List ℕ)) → readCounts input ≡ o → o ≡ none
 nothing-read input h none e = refl
 nothing-read input h (some counts) e = absurd (h counts (read-readable counts input e))
 

@@ -1,0 +1,140 @@
+-- Proofs. What the printer's functions answer, from what their parts answer.
+use Prim.Native.Nat.{ℕ, zero, suc, _+_, _-_, _≤_, _<_}
+use mathlib.Core.Path.{_≡_, refl, sym, ap, _∙_}
+use mathlib.Core.Bool.{true, false, false≢true}
+use mathlib.Core.Option.{Option, none, some}
+use mathlib.Core.List.{List, [], _∷_, _++_}
+use native.Mathlib.Decide.{decLt, ℕ-discrete}
+use native.Mathlib.Nat.{zero-add}
+use native.Mathlib.Omega.{arith}
+use lib.ListN.{length, getD, take, replicate, length-append}
+use lib.Seq.{take-append-seam}
+use Rattle.rules.specs.Stock.{sum, IsStock}
+use Rattle.rules.specs.Refusals.{No, firstOf, unless, smallest, isZero, stockNos}
+use Rattle.rules.proofs.Refusals.{unless-refused, unless-passed}
+use Rattle.rules.proofs.Smallest.{smallest-is}
+use Rattle.rules.proofs.Checks.{stock-empty, stock-over, stock-zero, stock-long, stock-fine, accepted}
+use Rattle.rules.proofs.Prefixes.{total-some}
+use Rattle.stock.specs.declared.Refusal.{Refusal}
+use Rattle.stock.specs.Refused.{refusal}
+use Rattle.stock.proofs.Tested.{passed, stopped}
+use Rattle.lines.specs.declared.reading.LineRead.{LineRead}
+use Rattle.lines.specs.Text.{unreadableLine, refusedLine, stripLine}
+use Rattle.lines.specs.Reading.{readCounts, lineRead}
+use Rattle.lines.specs.Puts.{put, Puts}
+use Rattle.printing.specs.declared.shown.Shown.{Shown}
+use Rattle.printing.specs.declared.printer.Begun.{Begun}
+use Rattle.printing.specs.declared.printer.Printer.{Printer}
+use Rattle.printing.specs.declared.printer.Printed.{Printed}
+use Rattle.printing.specs.Output.{stripLines, stockLines, linesOf, output}
+use Rattle.printing.specs.States.{shownAt, nowhere, nextShown, shownText, linesLeft, Shows, stockOf, Sound, shownFirst, printerOf, after, rest, asBegun, asPrinted}
+use Rattle.printing.proofs.Listing.{lines-many, line-at}
+use Rattle.printing.proofs.Standing.{text-at, text-none, text-some, text-next}
+
+-- ---- the line of the strip that is shown
+
+module _ (sh : Shown) (line : List ℕ) where
+  pub put-none : sh .blocks ≡ 0 → Puts line 0 (shownText sh) line 0
+  put-none e = rw (text-none sh e) (refl, refl)
+
+  pub put-some : (sh .blocks ≡ 0 → ⊥) → (written : List ℕ) (to : ℕ) → Puts line 0 (stripLine (sh .number) (take (sh .blocks) (sh .strip))) written to → Puts line 0 (shownText sh) written to
+  put-some n written to w = rw (text-some sh n) w
+
+-- ---- the first line of a stock
+
+-- the place of a refused stock is a kind
+pub refused-place : (counts : List ℕ) → firstOf (stockNos counts) .1 ≤ 16
+refused-place counts = elim (ℕ-discrete (length counts) 0) [
+  | yes e ↦ rw (← stock-empty counts e) (omega arith)
+  | no e ↦ elim (decLt 16 (length counts)) [
+    | yes l ↦ rw (← stock-over counts l) (omega arith)
+    | no l ↦ elim (ℕ-discrete (smallest isZero counts) 0) [
+      | no z ↦
+          let a = smallest-is isZero 1 counts (smallest isZero counts - 1) (omega arith) in
+          rw (← stock-zero counts e (omega arith) (smallest isZero counts) refl z) (omega (arith, a .inside, a .place))
+      | yes z ↦ elim (decLt 64 (sum counts)) [
+        | yes n ↦ rw (← stock-long counts e (omega arith) (smallest isZero counts) refl z n) (omega arith)
+        | no n ↦ rw (← stock-fine counts e (omega arith) (smallest isZero counts) refl z (omega arith)) (omega arith)
+      ]
+    ]
+  ]
+]
+
+abbrev Begins : List ℕ → List ℕ → List ℕ → Begun → Type 0
+Begins counts line written b = (b ≡ asBegun (getD (stockLines counts) 0 []) (shownFirst (some counts))) × (written ≡ put line 0 (getD (stockLines counts) 0 []))
+
+begun-is : (line written text other : List ℕ) (to : ℕ) (sh one : Shown) → text ≡ other → sh ≡ one → Puts line 0 text written to
+    → (_≡_ {A = Begun} record { length = to; shown = sh } (asBegun other one)) × (written ≡ put line 0 other)
+begun-is line written text other to sh one e f w = rw (← e) (rw (w .0, zero-add (length text), f), w .1)
+
+module _ (counts line written : List ℕ) (r : Refusal) (is : r ≡ refusal (firstOf (stockNos counts))) (to : ℕ) (sh : Shown) where
+  refused-text : (firstOf (stockNos counts) .0 ≡ 0 → ⊥) → refusedLine (r .no, r .place) ≡ getD (stockLines counts) 0 []
+  unfolding stockLines
+  refused-text n = rw is (sym (ap (λ (l : List (List ℕ)). getD l 0 []) (unless-refused (refusedLine (firstOf (stockNos counts)) ∷ []) (stripLines counts) (firstOf (stockNos counts)) n)))
+
+  pub begun-refused : (r .no ≡ 0 → ⊥) → sh ≡ nowhere → Puts line 0 (refusedLine (r .no, r .place)) written to → Begins counts line written (record { length = to; shown = sh })
+  begun-refused n e w =
+      let z = stopped (stockNos counts) r is n in
+      begun-is line written _ _ to sh _ (refused-text z) (e ∙ sym (unless-refused nowhere (shownAt counts 0) (firstOf (stockNos counts)) z)) w
+
+  first-text : (firstOf (stockNos counts) .0 ≡ 0) → sh ≡ shownAt counts 0 → shownText sh ≡ getD (stockLines counts) 0 []
+  unfolding stockLines
+  first-text z e =
+      text-at counts (accepted counts z) 0 (omega (arith, total-some counts)) sh e ∙ sym (line-at counts 0 (omega (arith, lines-many counts, total-some counts)))
+      ∙ sym (ap (λ (l : List (List ℕ)). getD l 0 []) (unless-passed (refusedLine (firstOf (stockNos counts)) ∷ []) (stripLines counts) (firstOf (stockNos counts)) z))
+
+  pub begun-shown : r .no ≡ 0 → sh ≡ shownAt counts 0 → Puts line 0 (shownText sh) written to → Begins counts line written (record { length = to; shown = sh })
+  begun-shown n e w =
+      let z = passed (stockNos counts) r is n in
+      begun-is line written _ _ to sh _ (first-text z e) (e ∙ sym (unless-passed nowhere (shownAt counts 0) (firstOf (stockNos counts)) z)) w
+
+-- ---- the first line of an input
+
+module _ (o : Option (List ℕ)) (read : LineRead) (is : read ≡ lineRead o) where
+  pub read-inside : read .kinds ≤ length (read .counts)
+  read-inside = rw is (go o)
+    where
+      go : (o : Option (List ℕ)) → lineRead o .kinds ≤ length (lineRead o .counts)
+      go none = omega arith
+      go (some counts) = omega (arith, length-append counts (replicate (128 - length counts) 0))
+
+abbrev Prints : List ℕ → Option (List ℕ) → List ℕ → Printed → Type 0
+Prints line o written p = (p ≡ asPrinted (getD (linesOf o) 0 []) (printerOf o)) × (written ≡ put line 0 (getD (linesOf o) 0 []))
+
+module _ (line written : List ℕ) (read : LineRead) where
+  by-unreadable : (o : Option (List ℕ)) → read ≡ lineRead o → read .readable ≡ false → (to : ℕ) (sh : Shown) → sh ≡ nowhere → Puts line 0 unreadableLine written to
+      → Prints line o written (record { length = to; printer = record { read = read; shown = sh } })
+  unfolding printerOf
+  by-unreadable none is f to sh e w = (rw (w .0, is, e), w .1)
+  by-unreadable (some counts) is f to sh e w = absurd (false≢true (sym f ∙ ap (λ (x : LineRead). x .readable) is))
+
+  by-stock : (o : Option (List ℕ)) → read ≡ lineRead o → read .readable ≡ true → (b : Begun) → Begins (stockOf read) line written b
+      → Prints line o written (record { length = b .length; printer = record { read = read; shown = b .shown } })
+  unfolding printerOf
+  by-stock none is f b w = absurd (false≢true (sym (ap (λ (x : LineRead). x .readable) is) ∙ f))
+  by-stock (some counts) is f b w = go (rw (is, take-append-seam counts (replicate (128 - length counts) 0)) at w)
+    where
+      go : Begins counts line written b → Prints line (some counts) written (record { length = b .length; printer = record { read = read; shown = b .shown } })
+      go v = (rw (v .0, is), v .1)
+
+  module _ (input : List ℕ) (is : read ≡ lineRead (readCounts input)) where
+    pub printed-unreadable : read .readable ≡ false → (to : ℕ) (sh : Shown) → sh ≡ nowhere → Puts line 0 unreadableLine written to
+        → (_≡_ {A = Printed} record { length = to; printer = record { read = read; shown = sh } } (asPrinted (getD (output input) 0 []) (printerOf (readCounts input)))) × (written ≡ put line 0 (getD (output input) 0 []))
+    unfolding output
+    printed-unreadable = by-unreadable (readCounts input) is
+
+    pub printed-stock : read .readable ≡ true → (b : Begun) → Begins (stockOf read) line written b
+        → (_≡_ {A = Printed} record { length = b .length; printer = record { read = read; shown = b .shown } } (asPrinted (getD (output input) 0 []) (printerOf (readCounts input)))) × (written ≡ put line 0 (getD (output input) 0 []))
+    unfolding output
+    printed-stock = by-stock (readCounts input) is
+
+-- ---- the next line
+
+pub printed-next : (p : Printer) (line written : List ℕ) (to : ℕ) (sh : Shown) → Sound p → sh ≡ nextShown (stockOf (p .read)) (p .shown) → Puts line 0 (shownText sh) written to
+    → (_≡_ {A = Printed} record { length = to; printer = record { read = p .read; shown = sh } } (asPrinted (getD (rest p) 0 []) (after p))) × (written ≡ put line 0 (getD (rest p) 0 []))
+unfolding after
+printed-next p line written to sh s e w = go (rw (e, text-next (stockOf (p .read)) (p .shown) (s .shows)) at w)
+  where
+    go : Puts line 0 (getD (rest p) 0 []) written to
+        → (_≡_ {A = Printed} record { length = to; printer = record { read = p .read; shown = sh } } (asPrinted (getD (rest p) 0 []) (after p))) × (written ≡ put line 0 (getD (rest p) 0 []))
+    go v = (rw (v .0, zero-add (length (getD (rest p) 0 [])), e), v .1)

@@ -1,0 +1,138 @@
+-- Theorems. The printer gives the lines of the output, one after the other; and one outcome of each open call.
+use Prim.Native.Nat.{ℕ, _-_}
+use mathlib.Core.Path.{_≡_, refl, sym, ap, _∙_}
+use mathlib.Core.Logic.{inl, inr}
+use mathlib.Core.Option.{Option, none, some}
+use mathlib.Core.List.{List, [], _∷_}
+use native.Mathlib.Decide.{ℕ-discrete}
+use native.Mathlib.Omega.{arith}
+use contract.Lifetimes.{Lfts}
+use borrow.Fn.Kinds.{Dens, endedOf}
+use denote.Triple.Clauses.{AtExit}
+use lib.ListN.{length, getD, take, drop, replicate}
+use lib.Seq.{take-append-seam}
+use Rattle.rules.specs.Stock.{sum, binom, product, total}
+use Rattle.rules.specs.Book.{after as after-words, E, lay, turn, snake, bookTo, book}
+use Rattle.rules.specs.Refusals.{firstOf, unless, smallestFrom, stockNos}
+use Rattle.rules.specs.Outcome.{OneOutcome}
+use Rattle.rules.proofs.Refusals.{unless-refused, unless-passed}
+use Rattle.rules.proofs.Checks.{accepted}
+use Rattle.rules.proofs.Prefixes.{total-some}
+use Rattle.lines.specs.Text.{digits, decimal, preceded, joined, Readable, unreadableLine, refusedLine, stripLine}
+use Rattle.lines.specs.Reading.{readFrom, readCounts, lineRead}
+use Rattle.lines.specs.Puts.{put}
+use Rattle.lines.proofs.Theorems.{nothing-read}
+use Rattle.lines.proofs.Readings.{readable-read}
+use Rattle.printing.specs.declared.printer.Printer.{Printer}
+use Rattle.printing.specs.declared.printer.Printed.{Printed}
+use Rattle.printing.specs.Output.{linesFrom, stripLines, stockLines, linesOf, output}
+use Rattle.printing.specs.States.{shownAt, nowhere, linesLeft, Shows, stockOf, Sound, shownFirst, printerOf, after, rest}
+use Rattle.printing.proofs.Listing.{lines-many}
+use Rattle.printing.proofs.Standing.{some-shown, left-are, shows-next, left-next}
+use Rattle.printing.proofs.Answering.{read-inside}
+use Rattle.printing.proofs.printer.first_line.Kinds as first-line
+use Rattle.printing.proofs.printer.first_line.Reads as first-line-reads
+use Rattle.printing.proofs.printer.next_line.Kinds as next-line
+use Rattle.printing.proofs.printer.next_line.Reads as next-line-reads
+
+-- ---- one outcome: two that the contract allows for one input are the same
+
+pub first-one-outcome : OneOutcome 2 first-line.ps first-line.r (λ κs s. s .1 .0 .now) first-line-reads.Post
+first-one-outcome κs a x y s t h k = (h .0 ∙ sym (k .0), h .1 ∙ sym (k .1))
+
+pub next-one-outcome : OneOutcome 1 next-line.ps next-line.r (λ κs s. s .1 .0 .now) next-line-reads.Post
+next-one-outcome κs a x y s t h k = (h .0 ∙ sym (k .0), h .1 ∙ sym (k .1))
+
+-- ---- what the output is
+
+-- of a line that can be read, the lines of its stock; of any other, one line
+pub output-read : (counts input : List ℕ) → Readable counts input → output input ≡ stockLines counts
+unfolding output
+output-read counts input r = ap linesOf (readable-read counts input r)
+
+pub output-unreadable : (input : List ℕ) → ((counts : List ℕ) → Readable counts input → ⊥) → output input ≡ unreadableLine ∷ []
+unfolding output
+output-unreadable input n = ap linesOf (nothing-read input n (readCounts input) refl)
+
+-- of `2 1`, the lines `0 1-1-2`, `1 1-2-1` and `2 2-1-1`
+pub output-2-1 : output (50 ∷ 32 ∷ 49 ∷ 10 ∷ []) ≡
+    (48 ∷ 32 ∷ 49 ∷ 45 ∷ 49 ∷ 45 ∷ 50 ∷ 10 ∷ []) ∷ (49 ∷ 32 ∷ 49 ∷ 45 ∷ 50 ∷ 45 ∷ 49 ∷ 10 ∷ []) ∷ (50 ∷ 32 ∷ 50 ∷ 45 ∷ 49 ∷ 45 ∷ 49 ∷ 10 ∷ []) ∷ []
+unfolding output stockLines stripLines linesFrom readCounts readFrom stripLine decimal digits joined preceded firstOf stockNos smallestFrom sum book bookTo snake turn lay E after-words
+output-2-1 = refl
+
+-- of `0 70`, the line `refused 2 1`
+pub output-0-70 : output (48 ∷ 32 ∷ 55 ∷ 48 ∷ 10 ∷ []) ≡ (114 ∷ 101 ∷ 102 ∷ 117 ∷ 115 ∷ 101 ∷ 100 ∷ 32 ∷ 50 ∷ 32 ∷ 49 ∷ 10 ∷ []) ∷ []
+unfolding output stockLines readCounts readFrom refusedLine decimal digits joined preceded firstOf stockNos smallestFrom sum
+output-0-70 = refl
+
+-- ---- the lines that are left
+
+first-shows : (counts : List ℕ) → Shows counts (shownFirst (some counts))
+unfolding shownAt
+first-shows counts = elim (ℕ-discrete (firstOf (stockNos counts) .0) 0) [
+  | yes z ↦
+      rw (unless-passed nowhere (shownAt counts 0) (firstOf (stockNos counts)) z)
+      (inr (record { stock = accepted counts z; within = omega (arith, lines-many counts, total-some counts); is = refl }))
+  | no n ↦ inl (unless-refused nowhere (shownAt counts 0) (firstOf (stockNos counts)) n)
+]
+
+pub first-sound : (o : Option (List ℕ)) → Sound (printerOf o)
+unfolding printerOf
+first-sound none = record { inside = omega arith; shows = inl refl }
+first-sound (some counts) = record {
+  inside = read-inside (some counts) (lineRead (some counts)) refl;
+  shows = rw (take-append-seam counts (replicate (128 - length counts) 0)) (first-shows counts);
+}
+
+pub next-sound : (p : Printer) → Sound p → Sound (after p)
+unfolding after
+next-sound p s = record { inside = s .inside; shows = shows-next (stockOf (p .read)) (p .shown) (s .shows) }
+
+left-first : (counts : List ℕ) → linesLeft counts (shownFirst (some counts)) ≡ drop 1 (stockLines counts)
+unfolding stockLines linesLeft shownAt
+left-first counts = elim (ℕ-discrete (firstOf (stockNos counts) .0) 0) [
+  | yes z ↦
+      let n = some-shown counts (accepted counts z) 0 (omega (arith, total-some counts)) (shownAt counts 0) refl in
+      rw (
+        unless-passed nowhere (shownAt counts 0) (firstOf (stockNos counts)) z,
+        unless-passed (refusedLine (firstOf (stockNos counts)) ∷ []) (stripLines counts) (firstOf (stockNos counts)) z,
+      ) (left-are counts (shownAt counts 0) n)
+  | no n ↦
+      rw (
+        unless-refused nowhere (shownAt counts 0) (firstOf (stockNos counts)) n,
+        unless-refused (refusedLine (firstOf (stockNos counts)) ∷ []) (stripLines counts) (firstOf (stockNos counts)) n,
+      )
+]
+
+rest-of : (o : Option (List ℕ)) → rest (printerOf o) ≡ drop 1 (linesOf o)
+unfolding printerOf linesLeft
+rest-of none = refl
+rest-of (some counts) = rw (take-append-seam counts (replicate (128 - length counts) 0)) (left-first counts)
+
+pub rest-first : (input : List ℕ) → rest (printerOf (readCounts input)) ≡ drop 1 (output input)
+unfolding output
+rest-first input = rest-of (readCounts input)
+
+pub rest-next : (p : Printer) → Sound p → rest (after p) ≡ drop 1 (rest p)
+unfolding after
+rest-next p s = left-next (stockOf (p .read)) (p .shown) (s .shows)
+
+-- ---- the calls: the first of the lines that are to come stands in the lent line, and the others are left
+
+pub record Gives (lines : List (List ℕ)) (line written : List ℕ) (r : Printed) : Type 0 where
+  pub bytes : r .length ≡ length (getD lines 0 [])
+  pub text : written ≡ put line 0 (getD lines 0 [])
+  pub sound : Sound (r .printer)
+  pub left : rest (r .printer) ≡ drop 1 lines
+
+gives : (lines : List (List ℕ)) (line written : List ℕ) (r : Printed) (p : Printer) → r ≡ record { length = length (getD lines 0 []); printer = p } → written ≡ put line 0 (getD lines 0 [])
+    → Sound p → rest p ≡ drop 1 lines → Gives lines line written r
+gives lines line written r p e f s l = rw e (record { bytes = refl; text = f; sound = s; left = l })
+
+pub first-right : (κs : Lfts 2) (a : Dens κs first-line.ps) (r : Printed) (s : AtExit (endedOf 2 first-line.ps first-line.r) κs) → first-line-reads.Post κs a r s
+    → Gives (output (a .0 .now)) (a .1 .0 .now) (s .1 .0 .now) r
+first-right κs a r s h = let o = readCounts (a .0 .now) in gives (output (a .0 .now)) _ _ r (printerOf o) (h .0) (h .1) (first-sound o) (rest-first (a .0 .now))
+
+pub next-right : (κs : Lfts 1) (a : Dens κs next-line.ps) (r : Printed) (s : AtExit (endedOf 1 next-line.ps next-line.r) κs) → Sound (a .0) → next-line-reads.Post κs a r s
+    → Gives (rest (a .0)) (a .1 .0 .now) (s .1 .0 .now) r
+next-right κs a r s k h = gives (rest (a .0)) _ _ r (after (a .0)) (h .0) (h .1) (next-sound (a .0) k) (rest-next (a .0) k)

@@ -1,0 +1,98 @@
+-- The states of a printer, and what its functions promise of them. What they mean is proved by the lines that are left to print (`rest-first`,
+-- `rest-next`), so nothing here is to be believed.
+use Prim.Native.Nat.{ℕ, _+_, _-_, _≤_, _<_}
+use mathlib.Core.Path.{_≡_}
+use mathlib.Core.Bool.{cond}
+use mathlib.Core.Logic.{_⊎_}
+use mathlib.Core.Option.{Option, none, some}
+use mathlib.Core.List.{List, [], _++_}
+use lib.Dec.{eqb, ltb}
+use lib.ListN.{length, getD, take, drop, replicate}
+use Rattle.rules.specs.Stock.{IsStock}
+use Rattle.rules.specs.Book.{book}
+use Rattle.rules.specs.Refusals.{firstOf, unless, stockNos}
+use Rattle.walker.specs.Walkers.{walkerOf, allForward}
+use Rattle.lines.specs.declared.reading.LineRead.{LineRead}
+use Rattle.lines.specs.Text.{stripLine}
+use Rattle.lines.specs.Reading.{lineRead}
+use Rattle.printing.specs.declared.shown.Shown.{Shown}
+use Rattle.printing.specs.declared.printer.Begun.{Begun}
+use Rattle.printing.specs.declared.printer.Printer.{Printer}
+use Rattle.printing.specs.declared.printer.Printed.{Printed}
+use Rattle.printing.specs.Output.{stripLines}
+
+-- ---- the strip that is shown
+
+-- strip i of a book
+unfoldable pub shownAt : List ℕ → ℕ → Shown
+shownAt counts i = let s = getD (book counts) i [] in record { strip = s ++ replicate (64 - length s) 0; blocks = length s; number = i; walker = walkerOf counts s }
+
+-- none
+abbrev pub nowhere : Shown
+nowhere = record { strip = replicate 64 0; blocks = 0; number = 0; walker = allForward }
+
+-- strip i, where it is among those that are printed
+unfoldable pub shownIf : List ℕ → ℕ → Shown
+shownIf counts i = cond (ltb i (length (stripLines counts))) (shownAt counts i) nowhere
+
+-- the strip after the one that is shown
+unfoldable pub nextShown : List ℕ → Shown → Shown
+nextShown counts sh = cond (eqb (sh .blocks) 0) nowhere (shownIf counts (sh .number + 1))
+
+-- its line
+unfoldable pub shownText : Shown → List ℕ
+shownText sh = cond (eqb (sh .blocks) 0) [] (stripLine (sh .number) (take (sh .blocks) (sh .strip)))
+
+-- the lines that are left after the strip that is shown
+unfoldable pub linesLeft : List ℕ → Shown → List (List ℕ)
+linesLeft counts sh = cond (eqb (sh .blocks) 0) [] (drop (sh .number + 1) (stripLines counts))
+
+-- a strip that is printed, of an accepted stock
+pub record Stands (counts : List ℕ) (sh : Shown) : Type 0 where
+  pub stock : IsStock counts
+  pub within : sh .number < length (stripLines counts)
+  pub is : sh ≡ shownAt counts (sh .number)
+
+-- such a strip, or none
+abbrev pub Shows : List ℕ → Shown → Type 0
+Shows counts sh = (sh ≡ nowhere) ⊎ Stands counts sh
+
+-- what a line needs of the strip that is shown: it has room
+pub record Fits (sh : Shown) : Type 0 where
+  pub inside : sh .blocks ≤ length (sh .strip)
+  pub small : sh .number < 10000
+  pub short : length (stripLine (sh .number) (take (sh .blocks) (sh .strip))) ≤ 200
+
+-- ---- the printer
+
+-- the stock that was read
+abbrev pub stockOf : LineRead → List ℕ
+stockOf r = take (r .kinds) (r .counts)
+
+-- a printer on its way
+pub record Sound (p : Printer) : Type 0 where
+  pub inside : p .read .kinds ≤ length (p .read .counts)
+  pub shows : Shows (stockOf (p .read)) (p .shown)
+
+-- the strip that is shown first
+abbrev pub shownFirst : Option (List ℕ) → Shown
+shownFirst none = nowhere
+shownFirst (some counts) = unless (firstOf (stockNos counts)) nowhere (shownAt counts 0)
+
+-- the printer of what is read of an input
+unfoldable pub printerOf : Option (List ℕ) → Printer
+printerOf o = record { read = lineRead o; shown = shownFirst o }
+
+-- the printer after one more line
+unfoldable pub after : Printer → Printer
+after p = record { read = p .read; shown = nextShown (stockOf (p .read)) (p .shown) }
+
+-- the lines that a printer has left
+abbrev pub rest : Printer → List (List ℕ)
+rest p = linesLeft (stockOf (p .read)) (p .shown)
+
+abbrev pub asBegun : List ℕ → Shown → Begun
+asBegun text sh = record { length = length text; shown = sh }
+
+abbrev pub asPrinted : List ℕ → Printer → Printed
+asPrinted text p = record { length = length text; printer = p }

@@ -1,0 +1,3 @@
+// Printing a book: the lines of the program's output, one after the other.
+pub mod printer;
+mod shown;

@@ -1,0 +1,105 @@
+// The printer: a state by value, with a step that gives the bytes of the next line.
+use crate::shown::Shown;
+use crate::shown::show_first;
+use crate::shown::show_next;
+use crate::shown::show_none;
+use lines::reading::LineRead;
+use lines::reading::read_line;
+use lines::text::put_word;
+use lines::writing::put_refusal;
+use lines::writing::put_strip;
+use stock::check_stock;
+ghost use Prim.Native.Nat.{_≤_};
+ghost use mathlib.Core.Path.{_≡_};
+ghost use mathlib.Core.Option.{some};
+ghost use mathlib.Core.List.{[]};
+ghost use lib.ListN.{length, getD};
+ghost use Rattle.lines.specs.Reading.{readCounts};
+ghost use Rattle.lines.specs.Puts.{put, Puts};
+ghost use Rattle.printing.specs.Output.{stockLines, output};
+ghost use Rattle.printing.specs.States.{shownText, Fits, Sound, shownFirst, printerOf, after, rest, asBegun, asPrinted};
+
+// What was read, and the strip that is shown.
+pub struct Printer {
+    pub read: LineRead,
+    pub shown: Shown,
+}
+
+// How many bytes of the lent line are the next line, and the printer after it. No bytes: nothing is left to print.
+pub struct Printed {
+    pub length: usize,
+    pub printer: Printer,
+}
+
+// The same of a stock: the length of its first line, and the strip that is shown then.
+pub struct Begun {
+    pub length: usize,
+    pub shown: Shown,
+}
+
+// The line of the strip that is shown; nothing where there is none.
+fn put_shown(shown: Shown, line: &mut [u8]) -> usize
+    requires { ⌜ Fits shown × (200 ≤ length (now line)) ⌝ }
+    ensures { λ r. ⌜ Puts (now (line .entry)) 0 (shownText shown) (now (line .exit)) r ⌝ }
+{
+    let n = shown.blocks;
+    if n == 0 {
+        return 0;
+    }
+    let strip = shown.strip;
+    put_strip(line, shown.number, &strip[..n])
+}
+
+// The first line of a stock.
+fn begin(stock: &[u16], line: &mut [u8]) -> Begun
+    requires { ⌜ 200 ≤ length (now line) ⌝ }
+    ensures { λ r. ⌜ (r ≡ asBegun (getD (stockLines (now (stock .entry))) 0 []) (shownFirst (some (now (stock .entry))))) × (now (line .exit) ≡ put (now (line .entry)) 0 (getD (stockLines (now (stock .entry))) 0 [])) ⌝ }
+{
+    let refusal = check_stock(stock);
+    let no = refusal.no;
+    if no != 0 {
+        let length = put_refusal(line, refusal);
+        let shown = show_none();
+        return Begun { length, shown };
+    }
+    let shown = show_first(stock);
+    let length = put_shown(shown, line);
+    Begun { length, shown }
+}
+
+// The first line of an input.
+pub fn first_line(input: &[u8], line: &mut [u8]) -> Printed
+    requires { ⌜ 200 ≤ length (now line) ⌝ }
+    ensures { λ r. ⌜ (r ≡ asPrinted (getD (output (now (input .entry))) 0 []) (printerOf (readCounts (now (input .entry))))) × (now (line .exit) ≡ put (now (line .entry)) 0 (getD (output (now (input .entry))) 0 [])) ⌝ }
+{
+    let read = read_line(input);
+    if !read.readable {
+        let length = put_word(line, 0, b"unreadable\n");
+        let shown = show_none();
+        let printer = Printer { read, shown };
+        return Printed { length, printer };
+    }
+    let kinds = read.kinds;
+    let counts = read.counts;
+    let begun = begin(&counts[..kinds], line);
+    let shown = begun.shown;
+    let printer = Printer { read, shown };
+    Printed {
+        length: begun.length,
+        printer,
+    }
+}
+
+// The next line, if one is left.
+pub fn next_line(printer: Printer, line: &mut [u8]) -> Printed
+    requires { ⌜ Sound printer × (200 ≤ length (now line)) ⌝ }
+    ensures { λ r. ⌜ (r ≡ asPrinted (getD (rest printer) 0 []) (after printer)) × (now (line .exit) ≡ put (now (line .entry)) 0 (getD (rest printer) 0 [])) ⌝ }
+{
+    let read = printer.read;
+    let kinds = read.kinds;
+    let counts = read.counts;
+    let shown = show_next(&counts[..kinds], printer.shown);
+    let length = put_shown(shown, line);
+    let printer = Printer { read, shown };
+    Printed { length, printer }
+}
