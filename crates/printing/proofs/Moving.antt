@@ -99,5 +99,5 @@ module _ (counts : List ℕ) (k : IsStock counts) (n : ℕ) (is : n ≡ sum coun
     first-shown o e =
         let own = rw (← strip-0) at (book-only counts 0 (omega (arith, total-some counts))) in
         let w : o .walker ≡ walkerOf counts s =
-              ap (λ (x : Opened). x .walker) e ∙ rw part-0 (unless-passed allForward (walkerOf counts s) (firstOf (checkNos counts s)) (accepted-both-back counts s k own)) in
+        ap (λ (x : Opened). x .walker) e ∙ rw part-0 (unless-passed allForward (walkerOf counts s) (firstOf (checkNos counts s)) (accepted-both-back counts s k own)) in
         shown-is counts s (drop n (replicate 64 0)) n 0 (o .walker) strip-0 length-0 (drop-zeros n 64) w

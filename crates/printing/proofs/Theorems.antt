@@ -1,5 +1,5 @@
 -- Theorems. The printer gives the lines of the output, one after the other; and one outcome of each open call.
-use Prim.Native.Nat.{ℕ, _-_}
+use Prim.Native.Nat.{ℕ, _+_, _-_, _≤_}
 use mathlib.Core.Path.{_≡_, refl, sym, ap, _∙_}
 use mathlib.Core.Logic.{inl, inr}
 use mathlib.Core.Option.{Option, none, some}
@@ -9,7 +9,7 @@ use native.Mathlib.Omega.{arith}
 use contract.Lifetimes.{Lfts}
 use borrow.Fn.Kinds.{Dens, endedOf}
 use denote.Triple.Clauses.{AtExit}
-use lib.ListN.{length, getD, take, drop, replicate}
+use lib.ListN.{length, getD, drop, replicate, length-append}
 use lib.Seq.{take-append-seam}
 use Rattle.rules.specs.Stock.{sum, binom, product, total}
 use Rattle.rules.specs.Book.{after as after-words, E, lay, turn, snake, bookTo, book}
@@ -26,7 +26,7 @@ use Rattle.lines.proofs.Readings.{readable-read}
 use Rattle.printing.specs.declared.printer.Printer.{Printer}
 use Rattle.printing.specs.declared.printer.Printed.{Printed}
 use Rattle.printing.specs.Output.{linesFrom, stripLines, stockLines, linesOf, output}
-use Rattle.printing.specs.States.{shownAt, nowhere, linesLeft, Shows, stockOf, Sound, shownFirst, printerOf, after, rest}
+use Rattle.printing.specs.States.{shownAt, nowhere, linesLeft, Shows, stockOf, Sound, shownFirst, printerOf, after, rest, asPrinted}
 use Rattle.printing.proofs.Listing.{lines-many}
 use Rattle.printing.proofs.Standing.{some-shown, left-are, shows-next, left-next}
 use Rattle.printing.proofs.Answering.{read-inside}
@@ -121,18 +121,30 @@ rest-next p s = left-next (stockOf (p .read)) (p .shown) (s .shows)
 
 pub record Gives (lines : List (List ℕ)) (line written : List ℕ) (r : Printed) : Type 0 where
   pub bytes : r .length ≡ length (getD lines 0 [])
+  pub inside : r .length ≤ length written
   pub text : written ≡ put line 0 (getD lines 0 [])
   pub sound : Sound (r .printer)
   pub left : rest (r .printer) ≡ drop 1 lines
 
-gives : (lines : List (List ℕ)) (line written : List ℕ) (r : Printed) (p : Printer) → r ≡ record { length = length (getD lines 0 []); printer = p } → written ≡ put line 0 (getD lines 0 [])
-    → Sound p → rest p ≡ drop 1 lines → Gives lines line written r
-gives lines line written r p e f s l = rw e (record { bytes = refl; text = f; sound = s; left = l })
+gives : (lines : List (List ℕ)) (line written : List ℕ) (r : Printed) (p : Printer) → (r ≡ asPrinted (getD lines 0 []) p) × (written ≡ put line 0 (getD lines 0 [])) → Sound p → rest p ≡ drop 1 lines
+    → Gives lines line written r
+gives lines line written r p h s l =
+    let t = getD lines 0 [] in
+    let n : length written ≡ length t + length (drop (0 + length t) line) = ap length (h .1) ∙ length-append t (drop (0 + length t) line) in
+    rw (h .0) (record { bytes = refl; inside = omega (arith, n); text = h .1; sound = s; left = l })
+
+pub first-gives : (input line written : List ℕ) (r : Printed)
+    → (r ≡ asPrinted (getD (output input) 0 []) (printerOf (readCounts input))) × (written ≡ put line 0 (getD (output input) 0 [])) → Gives (output input) line written r
+first-gives input line written r h = gives (output input) line written r (printerOf (readCounts input)) h (first-sound (readCounts input)) (rest-first input)
+
+pub next-gives : (p : Printer) (line written : List ℕ) (r : Printed) → Sound p
+    → (r ≡ asPrinted (getD (rest p) 0 []) (after p)) × (written ≡ put line 0 (getD (rest p) 0 [])) → Gives (rest p) line written r
+next-gives p line written r s h = gives (rest p) line written r (after p) h (next-sound p s) (rest-next p s)
 
 pub first-right : (κs : Lfts 2) (a : Dens κs first-line.ps) (r : Printed) (s : AtExit (endedOf 2 first-line.ps first-line.r) κs) → first-line-reads.Post κs a r s
     → Gives (output (a .0 .now)) (a .1 .0 .now) (s .1 .0 .now) r
-first-right κs a r s h = let o = readCounts (a .0 .now) in gives (output (a .0 .now)) _ _ r (printerOf o) (h .0) (h .1) (first-sound o) (rest-first (a .0 .now))
+first-right κs a r s h = first-gives (a .0 .now) _ _ r h
 
 pub next-right : (κs : Lfts 1) (a : Dens κs next-line.ps) (r : Printed) (s : AtExit (endedOf 1 next-line.ps next-line.r) κs) → Sound (a .0) → next-line-reads.Post κs a r s
     → Gives (rest (a .0)) (a .1 .0 .now) (s .1 .0 .now) r
-next-right κs a r s k h = gives (rest (a .0)) _ _ r (after (a .0)) (h .0) (h .1) (next-sound (a .0) k) (rest-next (a .0) k)
+next-right κs a r s k h = next-gives (a .0) _ _ r k h
