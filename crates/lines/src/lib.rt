@@ -1,4 +1,4 @@
 // The line that the printing program reads, and the lines that it prints.
 pub mod reading;
-pub mod text;
+mod text;
 pub mod writing;

@@ -49,7 +49,7 @@ fn read_counts(line: &[u8]) -> LineRead
 {
     let mut counts: [u16; 128] = [0; 128];
     let mut kinds: usize = 0;
-    let mut begun = false;
+    let mut begun: bool = false;
     let mut value: u16 = 0;
     let mut i = 0;
     while i < line.len() {

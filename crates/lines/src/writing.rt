@@ -6,7 +6,7 @@ use stock::Refusal;
 ghost use Prim.Native.Nat.{_+_, _≤_, _<_};
 ghost use mathlib.Core.List.{map};
 ghost use lib.ListN.{length};
-ghost use Rattle.lines.specs.Text.{hyphen, decimal, joined, refusedLine, stripLine};
+ghost use Rattle.lines.specs.Text.{hyphen, decimal, joined, unreadableLine, refusedLine, stripLine};
 ghost use Rattle.lines.specs.Puts.{Puts};
 
 // The kinds of a strip in order, joined by hyphens.
@@ -33,6 +33,14 @@ pub fn put_strip(line: &mut [u8], number: u64, strip: &[u8]) -> usize
     let at = put_byte(line, at, b' ');
     let at = put_kinds(line, at, strip);
     put_byte(line, at, b'\n')
+}
+
+// The line of an input that cannot be read.
+pub fn put_unreadable(line: &mut [u8]) -> usize
+    requires { ⌜ length unreadableLine ≤ length (now line) ⌝ }
+    ensures { λ r. ⌜ Puts (now (line .entry)) 0 unreadableLine (now (line .exit)) r ⌝ }
+{
+    put_word(line, 0, b"unreadable\n")
 }
 
 // The line of a refusal.

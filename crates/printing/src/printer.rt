@@ -5,9 +5,9 @@ use crate::shown::show_next;
 use crate::shown::show_none;
 use lines::reading::LineRead;
 use lines::reading::read_line;
-use lines::text::put_word;
 use lines::writing::put_refusal;
 use lines::writing::put_strip;
+use lines::writing::put_unreadable;
 use stock::check_stock;
 ghost use Prim.Native.Nat.{_≤_};
 ghost use mathlib.Core.Path.{_≡_};
@@ -74,7 +74,7 @@ pub fn first_line(input: &[u8], line: &mut [u8]) -> Printed
 {
     let read = read_line(input);
     if !read.readable {
-        let length = put_word(line, 0, b"unreadable\n");
+        let length = put_unreadable(line);
         let shown = show_none();
         let printer = Printer { read, shown };
         return Printed { length, printer };

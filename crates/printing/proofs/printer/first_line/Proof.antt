@@ -12,9 +12,9 @@ use Rattle.printing.proofs.printer.first_line.Tie as tie
 
 returns : tie.Need-returns
 returns c =
-    let r = c .before .before .before .before .before .before .before .before in
-    printed-unreadable _ _ _ _ (r .read-line .ensures) (not-true _ (c .before .before .before .before .before .before .if1 .taken)) _ _ (c .show-none .ensures)
-    (c .before .before .before .put-word .ensures)
+    let r = c .before .before .before .before .before .before .before in
+    printed-unreadable _ _ _ _ (r .read-line .ensures) (not-true _ (c .before .before .before .before .before .if1 .taken)) _ _ (c .show-none .ensures)
+    (c .before .before .before .put-unreadable .ensures)
 
 inside : (b : tie.After-read-line) → b .read-line .result .kinds ≤ length (b .read-line .result .counts)
 inside b = read-inside (readCounts (b .before .before .before .args .input .now)) _ (b .read-line .ensures)
@@ -29,7 +29,6 @@ first-line-spec =
     tie.close
     (tie.spec
     (λ c κs. search needs)
-    (λ c. search needs)
     (λ c κs. search needs)
     (λ c κs. search needs)
     (λ c. search needs)
