@@ -20,11 +20,11 @@ use Rattle.walking.proofs.Onward.{none-left}
 use Rattle.walking.proofs.Stepped.{Step, step-refused, step-made}
 
 -- after the last strip there is none
-past-last : (counts s : List ℕ) → IsStrip counts s → left counts s ≡ 0 → onward counts s 1 ≡ []
+pub past-last : (counts s : List ℕ) → IsStrip counts s → left counts s ≡ 0 → onward counts s 1 ≡ []
 unfolding onward left
 past-last counts s h e = List·getD-eq-default (book counts) [] (omega (arith, book-size counts, place-below counts s h))
 
-no-places : (p : ℕ) (s : List ℕ) → differFrom p s [] ≡ []
+pub no-places : (p : ℕ) (s : List ℕ) → differFrom p s [] ≡ []
 unfolding differFrom
 no-places p [] = refl
 no-places p (x ∷ s) = refl

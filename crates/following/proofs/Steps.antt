@@ -19,19 +19,19 @@ use Rattle.following.specs.Ends.{readoutOf}
 -- ---- by the first byte of what is left
 
 module _ (counts s : List ℕ) (at kind : ℕ) where
-  not-move : (kind ≡ 3 → ⊥) → (rest : List ℕ) → follow counts s at (kind ∷ rest) ≡ choice (eqb kind 4) (ended s at rest) (refusedAt 11 at)
+  pub not-move : (kind ≡ 3 → ⊥) → (rest : List ℕ) → follow counts s at (kind ∷ rest) ≡ choice (eqb kind 4) (ended s at rest) (refusedAt 11 at)
   unfolding follow
   not-move h [] = rw (ne-eqb kind 3 h)
   not-move h (p ∷ []) = rw (ne-eqb kind 3 h)
   not-move h (p ∷ q ∷ rest) = rw (ne-eqb kind 3 h)
 
-  short-move : kind ≡ 3 → (rest : List ℕ) → length rest < 2 → follow counts s at (kind ∷ rest) ≡ refusedAt 11 at
+  pub short-move : kind ≡ 3 → (rest : List ℕ) → length rest < 2 → follow counts s at (kind ∷ rest) ≡ refusedAt 11 at
   unfolding follow
   short-move h [] l = rw (eq-eqb kind 3 h)
   short-move h (p ∷ []) l = rw (eq-eqb kind 3 h)
   short-move h (p ∷ q ∷ rest) l = absurd (omega arith)
 
-  whole-move : kind ≡ 3 → (p q : ℕ) (rest : List ℕ)
+  pub whole-move : kind ≡ 3 → (p q : ℕ) (rest : List ℕ)
       → follow counts s at (kind ∷ p ∷ q ∷ rest) ≡ ifNext (same (places s (onward counts s 1)) (p ∷ q ∷ [])) at (follow counts (onward counts s 1) (at + 3) rest)
   unfolding follow onward
   whole-move h p q rest = rw (eq-eqb kind 3 h)

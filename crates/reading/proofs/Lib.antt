@@ -1,3 +1,5 @@
 -- Proofs: nobody needs to read these to know what holds.
 mod ReadOn
 mod Joined
+mod Padding
+mod MoveRecords
