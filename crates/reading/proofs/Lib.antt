@@ -3,3 +3,5 @@ mod ReadOn
 mod Joined
 mod Padding
 mod MoveRecords
+mod Shape
+mod Exactly

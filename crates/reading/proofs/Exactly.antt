@@ -1,0 +1,173 @@
+-- Proofs. A sheet of an accepted stock, a strip of it and no more moves than are left is read; and a sheet that is read is one of these.
+use Prim.Native.Nat.{ℕ, suc, _+_, _-_, _≤_, _<_}
+use mathlib.Core.Path.{_≡_, refl, sym, ap, _∙_}
+use mathlib.Core.Bool.{Bool, true, false, not}
+use mathlib.Core.List.{List, [], _∷_, _++_}
+use native.Mathlib.Decide.{ℕ-discrete}
+use native.Mathlib.Omega.{arith}
+use borrow.Author.Tests.{le-ltb, ltb-false}
+use lib.Dec.{ltb}
+use lib.ListN.{length, getD, take, drop, replicate, length-take, length-drop}
+use Rattle.rules.specs.Stock.{sum, IsStock, IsStrip}
+use Rattle.rules.specs.Refusals.{No, fine, when, firstOf, strangerNo, amountNo, stockNos, stripNos}
+use Rattle.rules.proofs.Refusals.{passed-first, passed-both, passed-fine}
+use Rattle.rules.proofs.Checks.{passed-head, when-passed, accepted-back, accepted-strip-back, length-right}
+use Rattle.rules.proofs.Strips.{strip-sum}
+use Rattle.walking.specs.Answers.{onward, left}
+use Rattle.sheets.specs.Sheets.{padded, stockRecord, stripRecord, moveRecords, sheetOf}
+use Rattle.records.specs.Records.{atByte, used, sheetStock, stripBody, sheetStrip, recordNo, paddingNo}
+use Rattle.records.specs.Opened.{stockAt, stripAt, openingNos}
+use Rattle.records.proofs.BodyLaws.{zeros, used-prefix, record-other, record-there}
+use Rattle.records.proofs.Beginning.{opening-stock, opening-strip, opening-body}
+use Rattle.following.specs.Following.{Followed}
+use Rattle.reading.specs.Reading.{followed, readNos}
+use Rattle.reading.proofs.ReadOn.{first-passed}
+use Rattle.reading.proofs.Joined.{read-rows}
+use Rattle.reading.proofs.Padding.{padded-long, used-padded, padded-used, padded-front, padded-rest, zeros-zeros, padded-split}
+use Rattle.reading.proofs.MoveRecords.{Rebuilt, rebuilt, follow-written}
+use Rattle.reading.proofs.Shape.{shaped, long-enough, first-body, second-kind, second-body, left-over, reshaped}
+
+-- ---- a sheet that is written is read
+
+sheet-shaped : (counts s : List ℕ) (c : ℕ) → sheetOf counts s c ≡ shaped (padded 16 counts) (padded 64 s) (moveRecords counts s c ++ (4 ∷ []))
+unfolding sheetOf stockRecord stripRecord
+sheet-shaped counts s c = refl
+
+module _ (counts s : List ℕ) (k : IsStock counts) (h : IsStrip counts s) (c : ℕ) where
+  abbrev a : List ℕ
+  a = padded 16 counts
+
+  abbrev b : List ℕ
+  b = padded 64 s
+
+  abbrev m : List ℕ
+  m = moveRecords counts s c ++ (4 ∷ [])
+
+  la : length a ≡ 16
+  la = padded-long 16 counts (k .few)
+
+  long : length s ≡ sum counts
+  long = strip-sum counts s h
+
+  lb : length b ≡ 64
+  lb = padded-long 64 s (omega (arith, long, k .short))
+
+  pub stock-back : sheetStock (sheetOf counts s c) ≡ counts
+  unfolding sheetStock
+  stock-back = rw (sheet-shaped counts s c, first-body a b m la lb) (used-padded 16 counts (k .each))
+
+  body-back : stripBody (sheetOf counts s c) ≡ b
+  unfolding stripBody
+  body-back = rw (sheet-shaped counts s c) (second-body a b m la lb)
+
+  pub strip-back : sheetStrip (sheetOf counts s c) ≡ s
+  unfolding sheetStrip
+  strip-back = rw (stock-back, body-back) (padded-front 64 (sum counts) s long)
+
+  padding-back : paddingNo (sheetOf counts s c) ≡ fine
+  unfolding paddingNo
+  padding-back = rw (stock-back, body-back, padded-rest 64 (sum counts) s long, zeros-zeros (64 - length s))
+
+  first-back : recordNo 1 16 0 (sheetOf counts s c) ≡ fine
+  first-back = sym (record-there 1 16 0 (sheetOf counts s c) (rw (sheet-shaped counts s c)) (rw (sheet-shaped counts s c) (omega (arith, long-enough a b m la lb))))
+
+  second-back : recordNo 2 64 17 (sheetOf counts s c) ≡ fine
+  second-back = sym (record-there 2 64 17 (sheetOf counts s c) (rw (sheet-shaped counts s c) (second-kind a b m la lb)) (rw (sheet-shaped counts s c) (omega (arith, long-enough a b m la lb))))
+
+  module _ (l : c ≤ left counts s) where
+    pub followed-back : followed (sheetOf counts s c) ≡ record { no = fine; moves = c; strip = onward counts s c }
+    unfolding followed
+    followed-back = rw (stock-back, strip-back, sheet-shaped counts s c, left-over a b m la lb) (follow-written counts c s h l 82)
+
+    own-back : firstOf (strangerNo counts s ∷ amountNo counts s ∷ []) ≡ fine
+    unfolding stripNos
+    own-back = length-right counts s (strangerNo counts s ∷ amountNo counts s ∷ []) long ∙ accepted-strip-back counts s h
+
+    pub none-back : (buffer : List ℕ) → 64 ≤ length buffer → firstOf (readNos (sheetOf counts s c) buffer) ≡ fine
+    unfolding readNos firstOf
+    none-back buffer room =
+        let own = strangerNo counts s ∷ amountNo counts s ∷ [] in
+        rw (le-ltb (length buffer) 64 room, first-back, stock-back, second-back, strip-back, padding-back, followed-back)
+        (passed-first (stockNos counts) (fine ∷ (own ++ (fine ∷ fine ∷ []))) (ap (λ (r : No). r .0) (accepted-back counts k)) ∙ passed-first own (fine ∷ fine ∷ []) (ap (λ (r : No). r .0) own-back))
+
+-- ---- a sheet that is read is one that is written
+
+record-kind : (kind body at : ℕ) (sheet : List ℕ) → recordNo kind body at sheet .0 ≡ 0 → getD sheet at 0 ≡ kind
+record-kind kind body at sheet z = elim (ℕ-discrete (getD sheet at 0) kind) [
+  | yes e ↦ e
+  | no e ↦ absurd (omega (arith, ap (λ (r : No). r .0) (record-other kind body at sheet e), z))
+]
+
+byte-passed : (n at : ℕ) (b : Bool) → atByte (suc n) at (not b) .0 ≡ 0 → b ≡ true
+byte-passed n at true z = refl
+byte-passed n at false z = absurd (omega arith)
+
+module _ (sheet buffer : List ℕ) (z : firstOf (readNos sheet buffer) .0 ≡ 0) where
+  abbrev counts : List ℕ
+  counts = sheetStock sheet
+
+  abbrev s : List ℕ
+  s = sheetStrip sheet
+
+  -- what each row that did not refuse says
+  pub record Rows : Type 0 where
+    pub room : 64 ≤ length buffer
+    pub first : getD sheet 0 0 ≡ 1
+    pub second : getD sheet 17 0 ≡ 2
+    pub padding : zeros (drop (sum counts) (stripBody sheet)) ≡ true
+    pub end : followed sheet .no .0 ≡ 0
+
+  rows : Rows
+  unfolding readNos paddingNo
+  rows =
+      let four = passed-head _ _ z in
+      let one = passed-head _ _ (four .1) in
+      let two = passed-head _ _ (passed-both (stockNos counts) _ (one .1) .1) in
+      let five = passed-head _ _ (two .1) in
+      let six = passed-head _ _ (five .1) in
+      let pad = passed-head _ _ (six .1) in
+      record {
+        room = ltb-false _ _ (when-passed 3 _ (four .0));
+        first = record-kind 1 16 0 sheet (one .0);
+        second = record-kind 2 64 17 sheet (two .0);
+        padding = byte-passed 10 17 _ (pad .0);
+        end = passed-head _ _ (pad .1) .0;
+      }
+
+  none : firstOf (openingNos 0 sheet) .0 ≡ 0
+  none = passed-both (openingNos 0 sheet) (followed sheet .no ∷ []) (passed-head _ _ (rw (read-rows sheet buffer) at z) .1) .0
+
+  pub read-stock : IsStock counts
+  unfolding sheetStock stockAt
+  read-stock = opening-stock 0 sheet none
+
+  pub read-strip : IsStrip counts s
+  unfolding sheetStock sheetStrip stripBody stockAt stripAt
+  read-strip = opening-strip 0 sheet none
+
+  follows : Rebuilt counts s (drop 82 sheet) (followed sheet)
+  unfolding followed
+  follows = rebuilt counts (drop 82 sheet) s read-strip 82 (rows .end)
+
+  pub read-moves : followed sheet .moves ≤ left counts s
+  read-moves = follows .within
+
+  first-padded : padded 16 counts ≡ take 16 (drop 1 sheet)
+  unfolding sheetStock
+  first-padded =
+      let l : length (take 16 (drop 1 sheet)) ≡ 16 = simp (length-take, length-drop) (omega (arith, opening-body 0 sheet none)) in
+      rw l at (padded-used (take 16 (drop 1 sheet)))
+
+  second-padded : padded 64 s ≡ take 64 (drop 18 sheet)
+  unfolding sheetStrip stripBody
+  second-padded =
+      let l : length (take 64 (drop 18 sheet)) ≡ 64 = simp (length-take, length-drop) (omega (arith, opening-body 0 sheet none)) in
+      rw l at (padded-split (sum counts) (take 64 (drop 18 sheet)) (omega (arith, read-stock .short)) (rows .padding))
+
+  pub read-is : sheet ≡ sheetOf counts s (followed sheet .moves)
+  read-is =
+      reshaped sheet (omega (arith, opening-body 0 sheet none)) (rows .first) (rows .second)
+      ∙ ap (λ (l : List ℕ). shaped l (take 64 (drop 18 sheet)) (drop 82 sheet)) (sym first-padded)
+      ∙ ap (λ (l : List ℕ). shaped (padded 16 counts) l (drop 82 sheet)) (sym second-padded)
+      ∙ ap (shaped (padded 16 counts) (padded 64 s)) (follows .sheet)
+      ∙ sym (sheet-shaped counts s (followed sheet .moves))
