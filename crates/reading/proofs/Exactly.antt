@@ -137,6 +137,9 @@ module _ (sheet buffer : List ℕ) (z : firstOf (readNos sheet buffer) .0 ≡ 0)
   none : firstOf (openingNos 0 sheet) .0 ≡ 0
   none = passed-both (openingNos 0 sheet) (followed sheet .no ∷ []) (passed-head _ _ (rw (read-rows sheet buffer) at z) .1) .0
 
+  pub read-room : 64 ≤ length buffer
+  read-room = rows .room
+
   pub read-stock : IsStock counts
   unfolding sheetStock stockAt
   read-stock = opening-stock 0 sheet none

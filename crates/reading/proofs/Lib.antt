@@ -2,6 +2,7 @@
 mod ReadOn
 mod Joined
 mod Padding
-mod MoveRecords
 mod Shape
+mod MoveRecords
 mod Exactly
+pub mod Theorems
