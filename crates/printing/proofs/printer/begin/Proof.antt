@@ -24,11 +24,11 @@ put-refusal-requires c κs =
 returns : tie.Need-returns
 returns c =
     let k = c .before .before .before .before .before .before in
-    begun-refused _ _ _ _ (k .check-stock .ensures) _ _ (c .before .before .before .before .before .if1 .taken) (c .show-none .ensures) (c .before .before .before .put-refusal .ensures)
+    begun-refused _ _ _ _ (k .check-stock .ensures) _ _ (omega arith) (c .show-none .ensures) (c .before .before .before .put-refusal .ensures)
 
 -- the stock is accepted
 stock : (c : tie.Else1) → IsStock (c .before .before .before .before .args .stock .now)
-stock c = accepted _ (passed (stockNos _) _ (c .before .check-stock .ensures) (c .if1 .left))
+stock c = accepted _ (passed (stockNos _) _ (c .before .check-stock .ensures) (omega arith))
 
 put-shown-requires : tie.Need-put-shown-requires
 put-shown-requires c κs =
@@ -39,7 +39,7 @@ put-shown-requires c κs =
 returns-2 : tie.Need-returns-2
 returns-2 c =
     let e = c .before .before .before .before .before in
-    begun-shown _ _ _ _ (e .before .check-stock .ensures) _ _ (e .if1 .left) (c .before .before .before .before .show-first .ensures) (c .before .before .put-shown .ensures)
+    begun-shown _ _ _ _ (e .before .check-stock .ensures) _ _ (omega arith) (c .before .before .before .before .show-first .ensures) (c .before .before .put-shown .ensures)
 
 pub begin-spec : {M : Type 1} → statement M
 begin-spec =
