@@ -1,4 +1,3 @@
--- Lines as bytes (to be believed); how the program's line is read; and what the functions that write a line promise.
+-- TO BE BELIEVED: the lines that the program prints, as bytes, and what it is to write one.
 pub mod Text
-pub mod Reading
 pub mod Puts

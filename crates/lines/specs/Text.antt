@@ -1,9 +1,7 @@
--- TO BE BELIEVED. Document 01, "The printing program": the line that it reads and the lines that it prints, as bytes.
-use Prim.Native.Nat.{ℕ, zero, suc, _+_, _/_, _%_, _≤_, _<_}
-use mathlib.Core.Path.{_≡_}
+-- TO BE BELIEVED. Document 01, "The printing program": the lines that it prints, as bytes.
+use Prim.Native.Nat.{ℕ, zero, suc, _+_, _/_, _%_}
 use mathlib.Core.List.{List, [], _∷_, _++_, map}
 use lib.Dec.{ltb}
-use lib.ListN.{length, getD}
 use Rattle.rules.specs.Refusals.{No, pick}
 
 -- ---- numbers
@@ -43,20 +41,6 @@ unfoldable pub joined : ℕ → List (List ℕ) → List ℕ
 unfolding preceded
 joined b [] = []
 joined b (t ∷ ts) = t ++ preceded b ts
-
--- ---- the line that is read
-
--- counts in decimal, single spaces between, a line feed at the end
-unfoldable pub lineOf : List ℕ → List ℕ
-unfolding decimal joined
-lineOf counts = joined space (map decimal counts) ++ (feed ∷ [])
-
--- an input that can be read: the line of one or more counts of one to three digits, nothing after, at most 255 bytes
-pub record Readable (counts input : List ℕ) : Type 0 where
-  pub some : 1 ≤ length counts
-  pub each : (i : ℕ) → i < length counts → getD counts i 0 < 1000
-  pub line : input ≡ lineOf counts
-  pub short : length input ≤ 255
 
 -- ---- the lines that are printed
 

@@ -1,4 +1,3 @@
-// The line that the printing program reads, and the lines that it prints.
-pub mod reading;
+// The lines that the printing program prints.
 mod text;
 pub mod writing;

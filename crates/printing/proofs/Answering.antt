@@ -18,9 +18,9 @@ use Rattle.rules.proofs.Prefixes.{total-some}
 use Rattle.stock.specs.declared.Refusal.{Refusal}
 use Rattle.stock.specs.Refused.{refusal}
 use Rattle.stock.proofs.Tested.{passed, stopped}
-use Rattle.lines.specs.declared.reading.LineRead.{LineRead}
+use Rattle.counts.specs.declared.LineRead.{LineRead}
 use Rattle.lines.specs.Text.{unreadableLine, refusedLine, stripLine}
-use Rattle.lines.specs.Reading.{readCounts, lineRead}
+use Rattle.counts.specs.Reading.{readCounts, lineRead}
 use Rattle.lines.specs.Puts.{put, Puts}
 use Rattle.printing.specs.declared.shown.Shown.{Shown}
 use Rattle.printing.specs.declared.printer.Begun.{Begun}

@@ -18,11 +18,12 @@ use Rattle.rules.specs.Outcome.{OneOutcome}
 use Rattle.rules.proofs.Refusals.{unless-refused, unless-passed}
 use Rattle.rules.proofs.Checks.{accepted}
 use Rattle.rules.proofs.Prefixes.{total-some}
-use Rattle.lines.specs.Text.{digits, decimal, preceded, joined, Readable, unreadableLine, refusedLine, stripLine}
-use Rattle.lines.specs.Reading.{readFrom, readCounts, lineRead}
+use Rattle.lines.specs.Text.{digits, decimal, preceded, joined, unreadableLine, refusedLine, stripLine}
+use Rattle.counts.specs.Readable.{Readable}
+use Rattle.counts.specs.Reading.{readFrom, readCounts, lineRead}
 use Rattle.lines.specs.Puts.{put}
-use Rattle.lines.proofs.Theorems.{nothing-read}
-use Rattle.lines.proofs.Readings.{readable-read}
+use Rattle.counts.proofs.Theorems.{nothing-read}
+use Rattle.counts.proofs.Readings.{readable-read}
 use Rattle.printing.specs.declared.printer.Printer.{Printer}
 use Rattle.printing.specs.declared.printer.Printed.{Printed}
 use Rattle.printing.specs.Output.{linesFrom, stripLines, stockLines, linesOf, output}

@@ -6,7 +6,7 @@ use lib.ListN.{take}
 use Rattle.rules.specs.Book.{book}
 use Rattle.rules.specs.Refusals.{firstOf, unless, stockNos}
 use Rattle.lines.specs.Text.{unreadableLine, refusedLine, stripLine}
-use Rattle.lines.specs.Reading.{readCounts}
+use Rattle.counts.specs.Reading.{readCounts}
 
 -- the lines of strips, one after the other, the first with number i
 unfoldable pub linesFrom : ℕ → List (List ℕ) → List (List ℕ)

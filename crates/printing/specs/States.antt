@@ -12,9 +12,9 @@ use Rattle.rules.specs.Stock.{IsStock}
 use Rattle.rules.specs.Book.{book}
 use Rattle.rules.specs.Refusals.{firstOf, unless, stockNos}
 use Rattle.walker.specs.Walkers.{walkerOf, allForward}
-use Rattle.lines.specs.declared.reading.LineRead.{LineRead}
+use Rattle.counts.specs.declared.LineRead.{LineRead}
 use Rattle.lines.specs.Text.{stripLine}
-use Rattle.lines.specs.Reading.{lineRead}
+use Rattle.counts.specs.Reading.{lineRead}
 use Rattle.printing.specs.declared.shown.Shown.{Shown}
 use Rattle.printing.specs.declared.printer.Begun.{Begun}
 use Rattle.printing.specs.declared.printer.Printer.{Printer}

@@ -5,7 +5,7 @@ use lib.ListN.{length}
 use lib.Seq.{length-take-le}
 use borrow.Author.Needs.{needs}
 use borrow.Author.Tests.{not-true, not-false}
-use Rattle.lines.specs.Reading.{readCounts}
+use Rattle.counts.specs.Reading.{readCounts}
 use Rattle.printing.proofs.Answering.{read-inside, printed-unreadable, printed-stock}
 use Rattle.printing.proofs.printer.first_line.Statement.{statement}
 use Rattle.printing.proofs.printer.first_line.Tie as tie

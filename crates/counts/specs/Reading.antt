@@ -6,8 +6,8 @@ use mathlib.Core.Option.{Option, none, some}
 use mathlib.Core.List.{List, [], _∷_, _++_}
 use lib.Dec.{eqb, ltb, leb}
 use lib.ListN.{length, getD, take, replicate}
 use Rattle.lines.specs.Text.{feed, space}
-use Rattle.lines.specs.declared.reading.LineRead.{LineRead}
+use Rattle.counts.specs.declared.LineRead.{LineRead}
 
 -- whether a byte is a digit that may stand next in a count: there is none yet, or what is read is not 0 and has fewer than three digits
 abbrev pub takes : Bool → ℕ → ℕ → Bool

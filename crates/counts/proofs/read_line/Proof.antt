@@ -1,12 +1,12 @@
--- `lines::reading::read_line` meets its contract: the length, the line feed, then the counts.
+-- `counts::read_line` meets its contract: the length, the line feed, then the counts.
 use mathlib.Core.Path.{sym, ap, _∙_}
 use native.Mathlib.Omega.{arith}
 use lib.ListN.{length-take}
 use borrow.Author.Needs.{needs}
-use Rattle.lines.specs.Reading.{lineRead}
-use Rattle.lines.proofs.ReadOn.{no-bytes, long-line, no-feed, with-feed}
-use Rattle.lines.proofs.reading.read_line.Statement.{statement}
-use Rattle.lines.proofs.reading.read_line.Tie as tie
+use Rattle.counts.specs.Reading.{lineRead}
+use Rattle.counts.proofs.ReadOn.{no-bytes, long-line, no-feed, with-feed}
+use Rattle.counts.proofs.read_line.Statement.{statement}
+use Rattle.counts.proofs.read_line.Tie as tie
 
 returns : tie.Need-returns
 returns c = c .unreadable .ensures ∙ ap lineRead (sym (no-bytes (c .before .before .before .args .input .now) (omega arith)))

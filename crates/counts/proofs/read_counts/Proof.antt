@@ -1,4 +1,4 @@
--- `lines::reading::read_counts` meets its contract. The invariant: the counts that are done, and what is read from here on, are what is read of the line.
+-- `counts::read_counts` meets its contract. The invariant: the counts that are done, and what is read from here on, are what is read of the line.
 use Prim.Native.Nat.{_-_, _<_}
 use mathlib.Core.Path.{_≡_, sym, _∙_}
 use mathlib.Core.Bool.{true, false}
@@ -6,12 +6,12 @@ use native.Mathlib.Omega.{arith}
 use lib.ListN.{length, getD}
 use borrow.Author.Needs.{needs}
 use borrow.Author.Tests.{not-true, not-false}
 use Rattle.lines.specs.Text.{space}
-use Rattle.lines.specs.Reading.{takes}
-use Rattle.lines.proofs.Taking.{Taken, taken}
-use Rattle.lines.proofs.ReadOn.{ReadOn, start, room, digit, next, not-begun, no-space, open-end, end}
-use Rattle.lines.proofs.reading.read_counts.Statement.{statement}
-use Rattle.lines.proofs.reading.read_counts.Tie as tie
+use Rattle.counts.specs.Reading.{takes}
+use Rattle.counts.proofs.Taking.{Taken, taken}
+use Rattle.counts.proofs.ReadOn.{ReadOn, start, room, digit, next, not-begun, no-space, open-end, end}
+use Rattle.counts.proofs.read_counts.Statement.{statement}
+use Rattle.counts.proofs.read_counts.Tie as tie
 
 abbrev Inv-loop : tie.InvT-loop
 Inv-loop line counts₀ kinds₀ begun₀ value₀ i₀ counts kinds begun value i = ReadOn line counts kinds begun value i

@@ -1,10 +1,10 @@
-// Reading the program's line.
+// The counts of the line that the printing program reads.
 ghost use Prim.Native.Nat.{_≤_};
 ghost use mathlib.Core.Path.{_≡_};
 ghost use mathlib.Core.Bool.{false};
 ghost use mathlib.Core.Option.{none};
 ghost use lib.ListN.{length};
-ghost use Rattle.lines.specs.Reading.{takes, readFrom, readCounts, lineRead};
+ghost use Rattle.counts.specs.Reading.{takes, readFrom, readCounts, lineRead};
 
 // What was read: whether the line can be read, how many counts it has, and the counts, in order. 255 bytes hold at most 127 counts.
 pub struct LineRead {

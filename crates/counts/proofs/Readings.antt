@@ -10,10 +10,11 @@ use borrow.Author.Tests.{leb-true, eqb-true, le-leb}
 use lib.Dec.{eqb, leb}
 use lib.ListN.{length, getD, take, length-append, List·getD-eq-default}
 use lib.Seq.{take-append-seam, getD-append-seam, take-length, take-suc}
-use Rattle.lines.specs.Text.{feed, space, decimal, preceded, joined, lineOf, Readable}
-use Rattle.lines.specs.Reading.{takes, before, readFrom, readCounts}
+use Rattle.lines.specs.Text.{feed, space, decimal, preceded, joined}
+use Rattle.counts.specs.Readable.{lineOf, Readable}
+use Rattle.counts.specs.Reading.{takes, before, readFrom, readCounts}
 use Rattle.lines.proofs.Decimals.{decimal-last, decimal-only}
-use Rattle.lines.proofs.Taking.{both, Taken, taken, taken-back}
+use Rattle.counts.proofs.Taking.{both, Taken, taken, taken-back}
 
 -- ---- a readable line is read
 

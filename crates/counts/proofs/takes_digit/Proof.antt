@@ -1,8 +1,8 @@
--- `lines::reading::takes_digit` meets its contract: test after test.
+-- `counts::takes_digit` meets its contract: test after test.
 use native.Mathlib.Omega.{arith}
 use borrow.Author.Tests.{lt-leb, le-leb, lt-ltb, le-ltb}
-use Rattle.lines.proofs.reading.takes_digit.Statement.{statement}
-use Rattle.lines.proofs.reading.takes_digit.Tie as tie
+use Rattle.counts.proofs.takes_digit.Statement.{statement}
+use Rattle.counts.proofs.takes_digit.Tie as tie
 
 returns : tie.Need-returns
 returns c = let a = c .before .args in rw (lt-leb 48 (a .byte) (omega arith))

@@ -11,9 +11,9 @@ use lib.Dec.{eqb}
 use lib.ListN.{length, getD, take, drop, set, replicate, length-append, drop-of-length-le}
 use lib.Seq.{drop-cons, set-at}
 use Rattle.rules.specs.Refusals.{pick}
 use Rattle.lines.specs.Text.{feed, space}
-use Rattle.lines.specs.declared.reading.LineRead.{LineRead}
-use Rattle.lines.specs.Reading.{takes, before, readFrom, readCounts, lineRead}
+use Rattle.counts.specs.declared.LineRead.{LineRead}
+use Rattle.counts.specs.Reading.{takes, before, readFrom, readCounts, lineRead}
 
 -- ---- one byte
 
