@@ -12,7 +12,6 @@ use lib.ListN.{length, getD, take, drop, set, replicate, length-append, drop-of-
 use lib.Seq.{drop-cons, set-at}
 use Rattle.rules.specs.Refusals.{pick}
 use Rattle.lines.specs.Text.{feed, space}
-use Rattle.counts.specs.declared.LineRead.{LineRead}
 use Rattle.counts.specs.Reading.{takes, before, readFrom, readCounts, lineRead}
 
 -- ---- one byte

@@ -1,10 +1,8 @@
 -- Proofs. Numbers and lines while they are written, part after part.
 use Prim.Native.Nat.{ℕ, _+_, _/_, _%_, _≤_, _<_}
-use mathlib.Core.Path.{_≡_}
 use mathlib.Core.List.{List, [], _∷_, _++_, map}
 use native.Mathlib.Omega.{arith}
 use lib.ListN.{length, getD}
-use Rattle.rules.specs.Refusals.{No}
 use Rattle.lines.specs.Text.{feed, space, hyphen, decimal, joined, refusedWord, refusedLine, stripLine}
 use Rattle.lines.specs.Puts.{Puts}
 use Rattle.lines.proofs.Decimals.{decimal-last}

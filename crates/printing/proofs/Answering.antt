@@ -1,16 +1,16 @@
 -- Proofs. What the printer's functions answer, from what their parts answer.
-use Prim.Native.Nat.{ℕ, zero, suc, _+_, _-_, _≤_, _<_}
+use Prim.Native.Nat.{ℕ, _-_, _≤_}
 use mathlib.Core.Path.{_≡_, refl, sym, ap, _∙_}
 use mathlib.Core.Bool.{true, false, false≢true}
 use mathlib.Core.Option.{Option, none, some}
-use mathlib.Core.List.{List, [], _∷_, _++_}
+use mathlib.Core.List.{List, [], _∷_}
 use native.Mathlib.Decide.{decLt, ℕ-discrete}
 use native.Mathlib.Nat.{zero-add}
 use native.Mathlib.Omega.{arith}
 use lib.ListN.{length, getD, take, replicate, length-append}
 use lib.Seq.{take-append-seam}
-use Rattle.rules.specs.Stock.{sum, IsStock}
-use Rattle.rules.specs.Refusals.{No, firstOf, unless, smallest, isZero, stockNos}
+use Rattle.rules.specs.Stock.{sum}
+use Rattle.rules.specs.Refusals.{firstOf, smallest, isZero, stockNos}
 use Rattle.rules.proofs.Refusals.{unless-refused, unless-passed}
 use Rattle.rules.proofs.Smallest.{smallest-is}
 use Rattle.rules.proofs.Checks.{stock-empty, stock-over, stock-zero, stock-long, stock-fine, accepted}
@@ -27,7 +27,7 @@ use Rattle.printing.specs.declared.printer.Begun.{Begun}
 use Rattle.printing.specs.declared.printer.Printer.{Printer}
 use Rattle.printing.specs.declared.printer.Printed.{Printed}
 use Rattle.printing.specs.Output.{stripLines, stockLines, linesOf, output}
-use Rattle.printing.specs.States.{shownAt, nowhere, nextShown, shownText, linesLeft, Shows, stockOf, Sound, shownFirst, printerOf, after, rest, asBegun, asPrinted}
+use Rattle.printing.specs.States.{shownAt, nowhere, nextShown, shownText, stockOf, Sound, shownFirst, printerOf, after, rest, asBegun, asPrinted}
 use Rattle.printing.proofs.Listing.{lines-many, line-at}
 use Rattle.printing.proofs.Standing.{text-at, text-none, text-some, text-next}
 

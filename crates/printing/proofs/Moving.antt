@@ -1,14 +1,14 @@
 -- Proofs. The strip that is shown after a step, and the one that is shown first.
-use Prim.Native.Nat.{ℕ, zero, suc, _+_, _-_, _≤_, _<_}
-use mathlib.Core.Path.{_≡_, refl, sym, ap, _∙_}
+use Prim.Native.Nat.{ℕ, zero, suc, _+_, _-_, _<_}
+use mathlib.Core.Path.{_≡_, sym, ap, _∙_}
 use mathlib.Core.Bool.{false}
 use mathlib.Core.List.{List, [], _++_}
 use native.Mathlib.Omega.{arith}
-use lib.ListN.{length, getD, take, drop, replicate, length-take}
+use lib.ListN.{length, getD, take, drop, replicate}
 use lib.Seq.{length-take-le, take-at}
 use Rattle.rules.specs.Stock.{sum, total, IsStock}
 use Rattle.rules.specs.Book.{book, placeIn}
-use Rattle.rules.specs.Refusals.{firstOf, bufferNos, checkNos}
+use Rattle.rules.specs.Refusals.{firstOf, checkNos}
 use Rattle.rules.proofs.Refusals.{unless-passed}
 use Rattle.rules.proofs.Checks.{accepted-buffer-back, accepted-both-back}
 use Rattle.rules.proofs.Strips.{strip-sum}
@@ -24,7 +24,6 @@ use Rattle.walking.specs.Checked.{Checked, stepAnswer, stepStrip}
 use Rattle.walking.proofs.Onward.{none-left, some-left}
 use Rattle.walking.proofs.Stepped.{Step, step-refused, step-made}
 use Rattle.printing.specs.declared.shown.Shown.{Shown}
-use Rattle.printing.specs.Output.{stripLines}
 use Rattle.printing.specs.States.{shownAt, nowhere, nextShown, Stands}
 use Rattle.printing.proofs.Listing.{lines-many, in-book}
 use Rattle.printing.proofs.Standing.{shown-is, size, blocks-are, some-shown, strip-is, zeros-are, checked, next-last, next-at}

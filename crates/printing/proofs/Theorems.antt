@@ -11,9 +11,9 @@ use borrow.Fn.Kinds.{Dens, endedOf}
 use denote.Triple.Clauses.{AtExit}
 use lib.ListN.{length, getD, drop, replicate, length-append}
 use lib.Seq.{take-append-seam}
-use Rattle.rules.specs.Stock.{sum, binom, product, total}
+use Rattle.rules.specs.Stock.{sum}
 use Rattle.rules.specs.Book.{after as after-words, E, lay, turn, snake, bookTo, book}
-use Rattle.rules.specs.Refusals.{firstOf, unless, smallestFrom, stockNos}
+use Rattle.rules.specs.Refusals.{firstOf, smallestFrom, stockNos}
 use Rattle.rules.specs.Outcome.{OneOutcome}
 use Rattle.rules.proofs.Refusals.{unless-refused, unless-passed}
 use Rattle.rules.proofs.Checks.{accepted}

@@ -6,7 +6,6 @@ use native.Mathlib.Omega.{arith}
 use lib.ListN.{length, getD}
 use borrow.Author.Needs.{needs}
 use borrow.Author.Tests.{not-true, not-false}
-use Rattle.lines.specs.Text.{space}
 use Rattle.counts.specs.Reading.{takes}
 use Rattle.counts.proofs.Taking.{Taken, taken}
 use Rattle.counts.proofs.ReadOn.{ReadOn, start, room, digit, next, not-begun, no-space, open-end, end}

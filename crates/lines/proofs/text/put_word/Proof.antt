@@ -1,11 +1,10 @@
 -- `lines::text::put_word` meets its contract. The invariant: the rest of the word, written from here on, makes the whole.
 use Prim.Native.Nat.{ℕ, _+_, _≤_, _-_}
-use mathlib.Core.List.{List, [], _∷_}
+use mathlib.Core.List.{List, _∷_}
 use native.Mathlib.Numerals.{add-one}
 use native.Mathlib.Omega.{arith}
 use lib.ListN.{length, getD, drop, drop-of-length-le}
 use lib.Seq.{drop-cons}
-use borrow.Author.Needs.{needs}
 use Rattle.lines.proofs.Putting.{Putting, start, byte-fits, byte-on, whole}
 use Rattle.lines.proofs.text.put_word.Statement.{statement}
 use Rattle.lines.proofs.text.put_word.Tie as tie
