@@ -1,0 +1,104 @@
+// A whole book compared with what the calls answer.
+use crate::moves::move_agrees;
+use crate::pairs::compare_pair;
+use crate::rows::directions_at;
+use crate::rows::last;
+use crate::rows::strip_at;
+use crate::runs::replay;
+use crate::runs::run_agrees;
+use crate::single::count_agrees;
+use crate::single::first_agrees;
+use crate::single::number_agrees;
+use crate::single::open_agrees;
+use crate::single::strip_agrees;
+use crate::tally;
+use crate::tally::note;
+
+// The strip of a number by itself.
+fn compare_strip(tally: &mut [u64; 32], stock: &[u16], book: &[u8], i: usize, work: &mut [u8]) {
+    let blocks = strip_at(book, i, work.len());
+    tally::count(tally, tally::STRIPS);
+    note(tally, tally::NUMBER, number_agrees(stock, blocks, i));
+    note(tally, tally::STRIP, strip_agrees(stock, blocks, i, work));
+    note(
+        tally,
+        tally::OPEN,
+        open_agrees(stock, blocks, directions_at(book, i)),
+    );
+}
+
+// The moves from the strip of a number.
+fn compare_moves(tally: &mut [u64; 32], stock: &[u16], book: &[u8], i: usize, work: &mut [u8]) {
+    note(
+        tally,
+        tally::FORWARD,
+        move_agrees(stock, book, i, false, work),
+    );
+    note(tally, tally::BACK, move_agrees(stock, book, i, true, work));
+}
+
+// The strip of a number with the last strip, and with the one on from it where there is one.
+fn compare_pairs(tally: &mut [u64; 32], stock: &[u16], book: &[u8], i: usize, n: usize) {
+    let end = last(book);
+    compare_pair(tally, stock, book, n, i, end);
+    compare_pair(tally, stock, book, n, end, i);
+    if i < end {
+        compare_pair(tally, stock, book, n, i, i + 1);
+        compare_pair(tally, stock, book, n, i + 1, i);
+    }
+}
+
+fn compare_strips(tally: &mut [u64; 32], stock: &[u16], book: &[u8], work: &mut [u8]) {
+    let n = work.len();
+    let strips = book.len() / 8;
+    let mut i = 0;
+    while i < strips {
+        compare_strip(tally, stock, book, i, work);
+        compare_moves(tally, stock, book, i, work);
+        compare_pairs(tally, stock, book, i, n);
+        i += 1;
+    }
+}
+
+// Run with the room of a lent list, and its moves one by one.
+fn compare_run(
+    tally: &mut [u64; 32],
+    stock: &[u16],
+    book: &[u8],
+    work: &mut [u8],
+    list: &mut [u8],
+) {
+    note(tally, tally::RUN, run_agrees(stock, book, work, list));
+    replay(tally, book, work, list);
+}
+
+// Run with room for all moves of the book, and with room for half of them, since a move takes two bytes.
+fn compare_runs(
+    tally: &mut [u64; 32],
+    stock: &[u16],
+    book: &[u8],
+    work: &mut [u8],
+    list: &mut [u8],
+) {
+    compare_run(tally, stock, book, work, list);
+    let moves = last(book);
+    if moves <= list.len() {
+        compare_run(tally, stock, book, work, &mut list[0..moves]);
+    }
+}
+
+// The book of a stock, with a strip and a list of moves to work on.
+pub fn compare_book(
+    tally: &mut [u64; 32],
+    stock: &[u16],
+    book: &[u8],
+    work: &mut [u8],
+    list: &mut [u8],
+) {
+    let first = strip_at(book, 0, work.len());
+    tally::count(tally, tally::STOCKS);
+    note(tally, tally::COUNT, count_agrees(stock, book.len() / 8));
+    note(tally, tally::FIRST, first_agrees(stock, first, work));
+    compare_runs(tally, stock, book, work, list);
+    compare_strips(tally, stock, book, work);
+}

@@ -1,0 +1,51 @@
+// The shelf: the books of kind 1, of kinds 1 to 2, of kinds 1 to 3 and so on, one behind the other.
+//
+// A row is eight bytes: a strip, zeros, and in the last byte its directions, where bit j - 1 is set if kind j runs backward.
+
+// Room for 1 + 2 + 6 + 24 + 120 + 720 rows, which six kinds of one block take.
+pub const ROWS: usize = 873;
+
+pub const BYTES: usize = 6984;
+
+// A book: its first row, and the row behind its last.
+pub struct Book {
+    pub from: usize,
+    pub to: usize,
+}
+
+pub fn byte(shelf: &[u8; BYTES], row: usize, i: usize) -> u8 {
+    if row < ROWS {
+        if i < 8 {
+            return shelf[row * 8 + i];
+        }
+    }
+    0
+}
+
+pub fn put(shelf: &mut [u8; BYTES], row: usize, i: usize, value: u8) {
+    if row < ROWS {
+        if i < 8 {
+            shelf[row * 8 + i] = value;
+        }
+    }
+}
+
+// The row behind a row.
+pub fn behind(row: usize) -> usize {
+    if row < ROWS {
+        return row + 1;
+    }
+    row
+}
+
+// The rows of a book.
+pub fn rows_of(shelf: &[u8], book: Book) -> &[u8] {
+    let from = book.from;
+    let to = book.to;
+    if from <= to {
+        if to <= shelf.len() / 8 {
+            return &shelf[from * 8..to * 8];
+        }
+    }
+    &shelf[..0]
+}
