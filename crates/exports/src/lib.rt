@@ -1,0 +1,108 @@
+// The open calls for C. Each has the contract of the call that it passes on; include/nelfrupi.h tells a C programmer what it says.
+use comparing::distance::Apart;
+use comparing::distance::distance;
+use comparing::which::Compared;
+use comparing::which::which;
+use counting::count::Counted;
+use counting::count::count;
+use counting::first::first;
+use numbering::number::Numbered;
+use numbering::number::number;
+use numbering::strip::strip;
+use papers::Asked;
+use papers::same_paper;
+use running::run::Ran;
+use running::run::run;
+use stock::Refusal;
+use walker::Walker;
+use walker::open::Opened;
+use walker::open::open;
+use walking::Moved;
+use walking::back::back;
+use walking::forward::forward;
+ghost use mathlib.Core.Path.{_≡_};
+ghost use mathlib.Core.Bool.{true, false};
+ghost use Rattle.counting.specs.Answers.{countAnswer, firstAnswer, firstAfter};
+ghost use Rattle.numbering.specs.Answers.{numberAnswer, stripAnswer, stripAfter};
+ghost use Rattle.comparing.specs.Answers.{whichAnswer, distanceAnswer};
+ghost use Rattle.walker.specs.Answers.{openAnswer};
+ghost use Rattle.walking.specs.Answers.{moveAnswer, moveStrip};
+ghost use Rattle.running.specs.Answers.{runAnswer, runStrip, runList};
+ghost use Rattle.papers.specs.Papers.{samePaperAnswer};
+
+#[no_mangle]
+pub extern "C" fn nelfrupi_count(stock: &[u16]) -> Counted
+    ensures { λ r. ⌜ r ≡ countAnswer (now (stock .entry)) ⌝ }
+{
+    count(stock)
+}
+
+#[no_mangle]
+pub extern "C" fn nelfrupi_first(stock: &[u16], buffer: &mut [u8]) -> Refusal
+    ensures { λ r. ⌜ (r ≡ firstAnswer (now (stock .entry)) (now (buffer .entry))) × (now (buffer .exit) ≡ firstAfter (now (stock .entry)) (now (buffer .entry))) ⌝ }
+{
+    first(stock, buffer)
+}
+
+#[no_mangle]
+pub extern "C" fn nelfrupi_number(stock: &[u16], strip: &[u8]) -> Numbered
+    ensures { λ r. ⌜ r ≡ numberAnswer (now (stock .entry)) (now (strip .entry)) ⌝ }
+{
+    number(stock, strip)
+}
+
+#[no_mangle]
+pub extern "C" fn nelfrupi_strip(stock: &[u16], number: u64, buffer: &mut [u8]) -> Refusal
+    ensures { λ r. ⌜ (r ≡ stripAnswer (now (stock .entry)) number (now (buffer .entry))) × (now (buffer .exit) ≡ stripAfter (now (stock .entry)) number (now (buffer .entry))) ⌝ }
+{
+    strip(stock, number, buffer)
+}
+
+#[no_mangle]
+pub extern "C" fn nelfrupi_which(stock: &[u16], first: &[u8], second: &[u8]) -> Compared
+    ensures { λ r. ⌜ r ≡ whichAnswer (now (stock .entry)) (now (first .entry)) (now (second .entry)) ⌝ }
+{
+    which(stock, first, second)
+}
+
+#[no_mangle]
+pub extern "C" fn nelfrupi_distance(stock: &[u16], first: &[u8], second: &[u8]) -> Apart
+    ensures { λ r. ⌜ r ≡ distanceAnswer (now (stock .entry)) (now (first .entry)) (now (second .entry)) ⌝ }
+{
+    distance(stock, first, second)
+}
+
+#[no_mangle]
+pub extern "C" fn nelfrupi_open(stock: &[u16], strip: &[u8]) -> Opened
+    ensures { λ r. ⌜ r ≡ openAnswer (now (stock .entry)) (now (strip .entry)) ⌝ }
+{
+    open(stock, strip)
+}
+
+#[no_mangle]
+pub extern "C" fn nelfrupi_forward(stock: &[u16], strip: &mut [u8], walker: Walker) -> Moved
+    ensures { λ r. ⌜ (r ≡ moveAnswer false (now (stock .entry)) (now (strip .entry)) walker) × (now (strip .exit) ≡ moveStrip false (now (stock .entry)) (now (strip .entry)) walker) ⌝ }
+{
+    forward(stock, strip, walker)
+}
+
+#[no_mangle]
+pub extern "C" fn nelfrupi_back(stock: &[u16], strip: &mut [u8], walker: Walker) -> Moved
+    ensures { λ r. ⌜ (r ≡ moveAnswer true (now (stock .entry)) (now (strip .entry)) walker) × (now (strip .exit) ≡ moveStrip true (now (stock .entry)) (now (strip .entry)) walker) ⌝ }
+{
+    back(stock, strip, walker)
+}
+
+#[no_mangle]
+pub extern "C" fn nelfrupi_run(stock: &[u16], strip: &mut [u8], walker: Walker, list: &mut [u8]) -> Ran
+    ensures { λ r. ⌜ (r ≡ runAnswer (now (stock .entry)) (now (strip .entry)) walker (now (list .entry))) × (now (strip .exit) ≡ runStrip (now (stock .entry)) (now (strip .entry)) walker (now (list .entry))) × (now (list .exit) ≡ runList (now (stock .entry)) (now (strip .entry)) walker (now (list .entry))) ⌝ }
+{
+    run(stock, strip, walker, list)
+}
+
+#[no_mangle]
+pub extern "C" fn nelfrupi_same_paper(stock: &[u16], first: &[u8], second: &[u8]) -> Asked
+    ensures { λ r. ⌜ r ≡ samePaperAnswer (now (stock .entry)) (now (first .entry)) (now (second .entry)) ⌝ }
+{
+    same_paper(stock, first, second)
+}
