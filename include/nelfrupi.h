@@ -1,0 +1,169 @@
+/* The strip book for C: the calls of target/staticlib/libexports.a, which `rt staticlib exports` proves and builds.
+ *
+ * WORDS
+ *   stock    how many blocks there are of each kind: 1 to 16 counts, each at least 1, their sum n at most 64.
+ *            Kinds are numbered from 1: stock[0] is the count of kind 1.
+ *   strip    one order of the stock: n bytes, each a kind, each kind as often as its count says.
+ *            Places are numbered from 1: the block at place p is strip[p - 1].
+ *   book     all strips of a stock, each once, in one fixed order. From a strip to the next, two blocks change places.
+ *   number   a strip's place in its book, counted from 0. T is the number of strips in the book, so the last is T - 1.
+ *   walker   the direction in which each kind moves at one strip. Each strip has one walker, which nelfrupi_open gives.
+ *
+ * LENDING
+ *   A list is lent as a pointer to its first element and a length, which is a number of elements. The pointer is not
+ *   NULL, also where the length is 0, and so many elements can be read there, and written if it is not const. What can
+ *   be written overlaps with nothing else that is lent to the same call. What the elements are is free: any content is
+ *   taken, and a bad one is refused. A walker's sixteen bytes are each true or false.
+ *   No call keeps a pointer, takes memory or has a state of its own. Every call comes back.
+ *
+ * REFUSALS
+ *   Each answer says in `refusal` whether the call was accepted (no 0, place 0) or refused (a number of this table, and
+ *   its place). A refused call leaves everything that was lent as it was. In its answer every other number is 0, a bool
+ *   is false, and a walker is the one that was lent; nelfrupi_open has none to give back, and gives all forward.
+ *   Where several rows hold, the first one in the order that stands with the call is answered.
+ *
+ *   no  when                                                            place
+ *    1  the stock has no kinds, or more than 16                         0
+ *    2  a count is 0                                                    the smallest such kind
+ *    3  n is above 64                                                   0
+ *    4  a strip, or a buffer for a strip, has not the length n          0
+ *    5  a byte of a strip is no kind of the stock                       the smallest such place
+ *    6  a strip has more or fewer blocks of a kind than its count       the smallest such kind
+ *    7  T is 2^64 or more                                               0
+ *    8  the number is T or more                                         0
+ *    9  no strip follows in the book, or for going back none precedes   0
+ *   10  the walker is not the one of the strip                          the smallest kind whose direction is wrong
+ *   14  the distance is below -2^63, or above 2^63 - 1                  0
+ */
+#ifndef NELFRUPI_H
+#define NELFRUPI_H
+
+#include <stdbool.h>
+#include <stddef.h>
+#include <stdint.h>
+
+#ifdef __cplusplus
+extern "C" {
+#endif
+
+typedef struct {
+    uint8_t no;
+    uint64_t place;
+} nelfrupi_refusal;
+
+/* back[j - 1] is the direction of kind j: true is backward. Kind 1 and the kinds that the stock does not have run forward. */
+typedef struct {
+    bool back[16];
+} nelfrupi_walker;
+
+/* ---- the book and its numbers */
+
+typedef struct {
+    nelfrupi_refusal refusal;
+    uint64_t total; /* T */
+} nelfrupi_counted;
+
+/* Count: how many strips the book of the stock has.
+ * Refused: 1, 2, 3, 7. */
+nelfrupi_counted nelfrupi_count(const uint16_t *stock, size_t kinds);
+
+/* First: writes strip 0, the blocks of kind 1, then those of kind 2, and so on. The buffer has n bytes, and what they
+ * were before is not looked at.
+ * Refused: 1, 2, 3, 4; the buffer is then as it was. */
+nelfrupi_refusal nelfrupi_first(const uint16_t *stock, size_t kinds, uint8_t *buffer, size_t length);
+
+typedef struct {
+    nelfrupi_refusal refusal;
+    uint64_t number;
+} nelfrupi_numbered;
+
+/* Number: the number of a strip.
+ * Refused: 1, 2, 3, 4, 5, 6, 7. */
+nelfrupi_numbered nelfrupi_number(const uint16_t *stock, size_t kinds, const uint8_t *strip, size_t length);
+
+/* Strip: writes the strip of a number. The buffer has n bytes, and what they were before is not looked at.
+ * Refused: 1, 2, 3, 4, 7, 8; the buffer is then as it was. */
+nelfrupi_refusal nelfrupi_strip(const uint16_t *stock, size_t kinds, uint64_t number, uint8_t *buffer, size_t length);
+
+/* ---- two strips of one stock. The two may be the same bytes, or overlap */
+
+enum { NELFRUPI_FIRST = 1, NELFRUPI_SECOND = 2, NELFRUPI_EQUAL = 3 };
+
+typedef struct {
+    nelfrupi_refusal refusal;
+    uint8_t which; /* 1, 2 or 3 as named above; 0 where it is refused */
+} nelfrupi_compared;
+
+/* Which: the strip that stands first in the book, or that the two are equal, also where T is 2^64 or more.
+ * Refused: 1, 2, 3; then 4, 5, 6 of the first strip; then 4, 5, 6 of the second. */
+nelfrupi_compared nelfrupi_which(const uint16_t *stock, size_t kinds, const uint8_t *first, size_t first_length,
+                                 const uint8_t *second, size_t second_length);
+
+typedef struct {
+    nelfrupi_refusal refusal;
+    int64_t moves;
+} nelfrupi_apart;
+
+/* Distance: the number of the second strip minus the number of the first; below 0 where the second stands first.
+ * Refused: 1, 2, 3; then 4, 5, 6 of the first strip; then 4, 5, 6 of the second; then 7, 14. */
+nelfrupi_apart nelfrupi_distance(const uint16_t *stock, size_t kinds, const uint8_t *first, size_t first_length,
+                                 const uint8_t *second, size_t second_length);
+
+typedef struct {
+    nelfrupi_refusal refusal;
+    bool same;
+} nelfrupi_asked;
+
+/* Same paper: whether the second strip is the first turned round. Turning by t places, t from 0 to n - 1, takes the
+ * first t blocks in order to the end.
+ * Refused: 1, 2, 3; then 4, 5, 6 of the first strip; then 4, 5, 6 of the second. */
+nelfrupi_asked nelfrupi_same_paper(const uint16_t *stock, size_t kinds, const uint8_t *first, size_t first_length,
+                                   const uint8_t *second, size_t second_length);
+
+/* ---- walking, also where T is 2^64 or more */
+
+typedef struct {
+    nelfrupi_refusal refusal;
+    nelfrupi_walker walker;
+} nelfrupi_opened;
+
+/* Open: the walker of a strip.
+ * Refused: 1, 2, 3, 4, 5, 6. */
+nelfrupi_opened nelfrupi_open(const uint16_t *stock, size_t kinds, const uint8_t *strip, size_t length);
+
+typedef struct {
+    nelfrupi_refusal refusal;
+    uint8_t low;  /* the two places that changed blocks, */
+    uint8_t high; /* smaller first */
+    nelfrupi_walker walker;
+} nelfrupi_moved;
+
+/* Forward and Back: the lent strip becomes the next strip of the book, or the one before it. The walker is the strip's
+ * own; the answer has the one of the new strip.
+ * Refused: 1, 2, 3, 4, 5, 6, 10, 9; the strip is then as it was. */
+nelfrupi_moved nelfrupi_forward(const uint16_t *stock, size_t kinds, uint8_t *strip, size_t length,
+                                nelfrupi_walker walker);
+nelfrupi_moved nelfrupi_back(const uint16_t *stock, size_t kinds, uint8_t *strip, size_t length,
+                             nelfrupi_walker walker);
+
+typedef struct {
+    nelfrupi_refusal refusal;
+    uint64_t moves;
+    bool last; /* whether the strip is now the last of the book */
+    nelfrupi_walker walker;
+} nelfrupi_ran;
+
+/* Run: moves the lent strip on, move by move, and writes the two places of each move, smaller first, into the list. It
+ * stops when the list has no room for two places more, or on the last strip of the book. So a list of 2 m bytes, or of
+ * one byte more, has room for m moves. The answer has the moves made and the walker of the strip as it then stands; the
+ * bytes of the list after two for each move are as they were. No room, and a start on the last strip, are no refusals:
+ * it then makes 0 moves.
+ * Refused: 1, 2, 3, 4, 5, 6, 10; the strip and the list are then as they were. */
+nelfrupi_ran nelfrupi_run(const uint16_t *stock, size_t kinds, uint8_t *strip, size_t length, nelfrupi_walker walker,
+                          uint8_t *list, size_t list_length);
+
+#ifdef __cplusplus
+}
+#endif
+
+#endif
