@@ -146,6 +146,14 @@ nelfrupi_moved nelfrupi_forward(const uint16_t *stock, size_t kinds, uint8_t *st
 nelfrupi_moved nelfrupi_back(const uint16_t *stock, size_t kinds, uint8_t *strip, size_t length,
                              nelfrupi_walker walker);
 
+/* The same moves for a driver that lends its walker: the answer is that of nelfrupi_forward or nelfrupi_back, and the
+ * lent walker becomes the one in the answer, so that the next call can take it as it stands.
+ * Refused: 1, 2, 3, 4, 5, 6, 10, 9; the strip and the walker are then as they were. */
+nelfrupi_moved nelfrupi_drive_forward(const uint16_t *stock, size_t kinds, uint8_t *strip, size_t length,
+                                      nelfrupi_walker *walker);
+nelfrupi_moved nelfrupi_drive_back(const uint16_t *stock, size_t kinds, uint8_t *strip, size_t length,
+                                   nelfrupi_walker *walker);
+
 typedef struct {
     nelfrupi_refusal refusal;
     uint64_t moves;

@@ -1,4 +1,6 @@
 // The open calls for C. Each has the contract of the call that it passes on; include/nelfrupi.h tells a C programmer what it says.
+pub mod driving;
+
 use comparing::distance::Apart;
 use comparing::distance::distance;
 use comparing::which::Compared;
@@ -94,7 +96,12 @@ pub extern "C" fn nelfrupi_back(stock: &[u16], strip: &mut [u8], walker: Walker)
 }
 
 #[no_mangle]
-pub extern "C" fn nelfrupi_run(stock: &[u16], strip: &mut [u8], walker: Walker, list: &mut [u8]) -> Ran
+pub extern "C" fn nelfrupi_run(
+    stock: &[u16],
+    strip: &mut [u8],
+    walker: Walker,
+    list: &mut [u8],
+) -> Ran
     ensures { λ r. ⌜ (r ≡ runAnswer (now (stock .entry)) (now (strip .entry)) walker (now (list .entry))) × (now (strip .exit) ≡ runStrip (now (stock .entry)) (now (strip .entry)) walker (now (list .entry))) × (now (list .exit) ≡ runList (now (stock .entry)) (now (strip .entry)) walker (now (list .entry))) ⌝ }
 {
     run(stock, strip, walker, list)
