@@ -51,7 +51,7 @@ typedef struct {
     uint64_t place;
 } nelfrupi_refusal;
 
-/* back[j - 1] is the direction of kind j: true is backward. Kind 1 and the kinds that the stock does not have run forward. */
+/* back[j - 1] is the direction of kind j: true is backward. Kind 1, and a kind that the stock has not, runs forward. */
 typedef struct {
     bool back[16];
 } nelfrupi_walker;

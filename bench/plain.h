@@ -1,0 +1,193 @@
+/* Plain C to hold the library against. Nothing is checked: the caller lends what is right. The book is stepped through
+ * and numbered by the rule's own recursion, as the library does it; the order of a dictionary is the usual other way
+ * through the strips of a stock. */
+#ifndef PLAIN_H
+#define PLAIN_H
+
+#include <stdbool.h>
+#include <stddef.h>
+#include <stdint.h>
+
+/* A call stays a call, as those of the library do. */
+#define CALLED __attribute__((noinline)) static
+
+static void exchange(uint8_t *strip, size_t low, size_t high)
+{
+    uint8_t block = strip[low];
+    strip[low] = strip[high];
+    strip[high] = block;
+}
+
+/* The next strip in dictionary order; false on the last. */
+CALLED bool dictionary_next(uint8_t *strip, size_t n)
+{
+    size_t i = n - 1, j = n - 1;
+    while (i > 0 && strip[i - 1] >= strip[i]) {
+        i--;
+    }
+    if (i == 0) {
+        return false;
+    }
+    while (strip[j] <= strip[i - 1]) {
+        j--;
+    }
+    exchange(strip, i - 1, j);
+    for (j = n - 1; i < j; i++, j--) {
+        exchange(strip, i, j);
+    }
+    return true;
+}
+
+/* ---- one kind in a word of a blocks, of which so many are others */
+
+typedef struct {
+    bool found;
+    size_t low, high;
+} plain_step;
+
+static plain_step or_else(plain_step step, size_t low, size_t high)
+{
+    return step.found ? step : (plain_step){true, low, high};
+}
+
+static plain_step word_prev(const uint8_t *word, size_t a, uint8_t kind, size_t others);
+
+static plain_step word_next(const uint8_t *word, size_t a, uint8_t kind, size_t others)
+{
+    if (others == 0 || a <= others) {
+        return (plain_step){false, 0, 0};
+    }
+    if (word[a - 1] == kind) {
+        return or_else(word_next(word, a - 1, kind, others), a - 2, a - 1);
+    }
+    if (word[a - 2] != kind) {
+        return word_next(word, a - 2, kind, others - 2);
+    }
+    if (others == 1) {
+        return (plain_step){false, 0, 0};
+    }
+    return or_else(word_prev(word, a - 2, kind, others - 1), others - 2, a - 2);
+}
+
+static plain_step word_prev(const uint8_t *word, size_t a, uint8_t kind, size_t others)
+{
+    if (others == 0 || a <= others) {
+        return (plain_step){false, 0, 0};
+    }
+    if (word[a - 1] == kind) {
+        return word_prev(word, a - 1, kind, others);
+    }
+    if (word[a - 2] == kind) {
+        return or_else(word_next(word, a - 2, kind, others - 1), a - 2, a - 1);
+    }
+    return or_else(word_prev(word, a - 2, kind, others - 2), others - 2, a - 2);
+}
+
+static uint64_t binomials[65][65];
+
+static void fill_binomials(void)
+{
+    for (size_t a = 0; a <= 64; a++) {
+        binomials[a][0] = binomials[a][a] = 1;
+        for (size_t b = 1; b < a; b++) {
+            binomials[a][b] = binomials[a - 1][b - 1] + binomials[a - 1][b];
+        }
+    }
+}
+
+static uint64_t word_index(const uint8_t *word, size_t a, uint8_t kind, size_t others)
+{
+    if (others == 0 || a <= others) {
+        return 0;
+    }
+    if (word[a - 1] == kind) {
+        return word_index(word, a - 1, kind, others);
+    }
+    uint64_t before = binomials[a - 1][others];
+    if (word[a - 2] == kind) {
+        return before + binomials[a - 2][others - 1] - 1 - word_index(word, a - 2, kind, others - 1);
+    }
+    return before + binomials[a - 2][others - 1] + word_index(word, a - 2, kind, others - 2);
+}
+
+/* The first blocks of the word are those of the others. */
+static void word_lay(uint8_t *word, size_t a, uint8_t kind, size_t others, uint64_t index)
+{
+    bool turned = false;
+    while (others < a) {
+        uint64_t ends = binomials[--a][others];
+        if (index < ends) {
+            word[a] = kind;
+            index = turned ? ends - 1 - index : index;
+            turned = false;
+        } else {
+            word[a] = word[--others];
+            index -= ends;
+            turned = !turned;
+        }
+    }
+}
+
+/* ---- the book of a stock */
+
+/* The next strip of the book, with the directions of its kinds; false on the last. */
+CALLED bool book_next(const uint16_t *stock, size_t kinds, uint8_t *strip, size_t n, bool *back)
+{
+    size_t lo = 0, hi = n;
+    for (size_t j = kinds; j-- > 0;) {
+        size_t others = hi - lo - stock[j];
+        plain_step step = back[j] ? word_prev(strip + lo, hi - lo, (uint8_t)(j + 1), others)
+                                  : word_next(strip + lo, hi - lo, (uint8_t)(j + 1), others);
+        if (step.found) {
+            exchange(strip, lo + step.low, lo + step.high);
+            for (size_t i = j + 1; i < kinds; i++) {
+                back[i] = !back[i];
+            }
+            return true;
+        }
+        if (back[j]) {
+            hi -= stock[j];
+        } else {
+            lo += stock[j];
+        }
+    }
+    return false;
+}
+
+CALLED uint64_t book_number(const uint16_t *stock, size_t kinds, const uint8_t *strip, size_t n)
+{
+    uint64_t number = 0;
+    size_t below = 0;
+    for (size_t j = 0; j < kinds; j++) {
+        uint8_t word[64];
+        size_t a = 0;
+        for (size_t i = 0; i < n; i++) {
+            if (strip[i] <= j + 1) {
+                word[a++] = strip[i];
+            }
+        }
+        uint64_t index = word_index(word, a, (uint8_t)(j + 1), below), patterns = binomials[a][below];
+        number = number * patterns + (number % 2 == 1 ? patterns - 1 - index : index);
+        below += stock[j];
+    }
+    return number;
+}
+
+CALLED void book_strip(const uint16_t *stock, size_t kinds, uint64_t number, uint8_t *strip, size_t n)
+{
+    uint64_t indices[16];
+    size_t a = n, below = 0;
+    for (size_t j = kinds; j-- > 0;) {
+        uint64_t patterns = binomials[a][a - stock[j]], place = number % patterns;
+        number /= patterns;
+        indices[j] = number % 2 == 1 ? patterns - 1 - place : place;
+        a -= stock[j];
+    }
+    for (size_t j = 0; j < kinds; j++) {
+        a = below + stock[j];
+        word_lay(strip, a, (uint8_t)(j + 1), below, indices[j]);
+        below = a;
+    }
+}
+
+#endif
