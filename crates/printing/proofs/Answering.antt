@@ -25,9 +25,8 @@ use Rattle.lines.specs.Puts.{put, Puts}
 use Rattle.printing.specs.declared.shown.Shown.{Shown}
 use Rattle.printing.specs.declared.printer.Begun.{Begun}
 use Rattle.printing.specs.declared.printer.Printer.{Printer}
-use Rattle.printing.specs.declared.printer.Printed.{Printed}
 use Rattle.printing.specs.Output.{stripLines, stockLines, linesOf, output}
-use Rattle.printing.specs.States.{shownAt, nowhere, nextShown, shownText, stockOf, Sound, shownFirst, printerOf, after, rest, asBegun, asPrinted}
+use Rattle.printing.specs.States.{shownAt, nowhere, nextShown, shownText, stockOf, Sound, shownFirst, printerOf, after, rest, asBegun, Begins, Prints}
 use Rattle.printing.proofs.Listing.{lines-many, line-at}
 use Rattle.printing.proofs.Standing.{text-at, text-none, text-some, text-next}
 
@@ -60,8 +59,9 @@ refused-place counts = elim (ℕ-discrete (length counts) 0) [
   ]
 ]
 
-abbrev Begins : List ℕ → List ℕ → List ℕ → Begun → Type 0
-Begins counts line written b = (b ≡ asBegun (getD (stockLines counts) 0 []) (shownFirst (some counts))) × (written ≡ put line 0 (getD (stockLines counts) 0 []))
+-- what the first line of a stock is
+abbrev Starts : List ℕ → List ℕ → List ℕ → Begun → Type 0
+Starts counts line written b = Begins (stockLines counts) (shownFirst (some counts)) line written b
 
 begun-is : (line written text other : List ℕ) (to : ℕ) (sh one : Shown) → text ≡ other → sh ≡ one → Puts line 0 text written to
     → (_≡_ {A = Begun} record { length = to; shown = sh } (asBegun other one)) × (written ≡ put line 0 other)
@@ -72,7 +72,7 @@ module _ (counts line written : List ℕ) (r : Refusal) (is : r ≡ refusal (fir
   unfolding stockLines
   refused-text n = rw is (sym (ap (λ (l : List (List ℕ)). getD l 0 []) (unless-refused (refusedLine (firstOf (stockNos counts)) ∷ []) (stripLines counts) (firstOf (stockNos counts)) n)))
 
-  pub begun-refused : (r .no ≡ 0 → ⊥) → sh ≡ nowhere → Puts line 0 (refusedLine (r .no, r .place)) written to → Begins counts line written (record { length = to; shown = sh })
+  pub begun-refused : (r .no ≡ 0 → ⊥) → sh ≡ nowhere → Puts line 0 (refusedLine (r .no, r .place)) written to → Starts counts line written (record { length = to; shown = sh })
   begun-refused n e w =
       let z = stopped (stockNos counts) r is n in
       begun-is line written _ _ to sh _ (refused-text z) (e ∙ sym (unless-refused nowhere (shownAt counts 0) (firstOf (stockNos counts)) z)) w
@@ -83,7 +83,7 @@ module _ (counts line written : List ℕ) (r : Refusal) (is : r ≡ refusal (fir
       text-at counts (accepted counts z) 0 (omega (arith, total-some counts)) sh e ∙ sym (line-at counts 0 (omega (arith, lines-many counts, total-some counts)))
       ∙ sym (ap (λ (l : List (List ℕ)). getD l 0 []) (unless-passed (refusedLine (firstOf (stockNos counts)) ∷ []) (stripLines counts) (firstOf (stockNos counts)) z))
 
-  pub begun-shown : r .no ≡ 0 → sh ≡ shownAt counts 0 → Puts line 0 (shownText sh) written to → Begins counts line written (record { length = to; shown = sh })
+  pub begun-shown : r .no ≡ 0 → sh ≡ shownAt counts 0 → Puts line 0 (shownText sh) written to → Starts counts line written (record { length = to; shown = sh })
   begun-shown n e w =
       let z = passed (stockNos counts) r is n in
       begun-is line written _ _ to sh _ (first-text z e) (e ∙ sym (unless-passed nowhere (shownAt counts 0) (firstOf (stockNos counts)) z)) w
@@ -98,43 +98,40 @@ module _ (o : Option (List ℕ)) (read : LineRead) (is : read ≡ lineRead o) wh
       go none = omega arith
       go (some counts) = omega (arith, length-append counts (replicate (128 - length counts) 0))
 
-abbrev Prints : List ℕ → Option (List ℕ) → List ℕ → Printed → Type 0
-Prints line o written p = (p ≡ asPrinted (getD (linesOf o) 0 []) (printerOf o)) × (written ≡ put line 0 (getD (linesOf o) 0 []))
-
 module _ (line written : List ℕ) (read : LineRead) where
   by-unreadable : (o : Option (List ℕ)) → read ≡ lineRead o → read .readable ≡ false → (to : ℕ) (sh : Shown) → sh ≡ nowhere → Puts line 0 unreadableLine written to
-      → Prints line o written (record { length = to; printer = record { read = read; shown = sh } })
+      → Prints (linesOf o) (printerOf o) line written (record { length = to; printer = record { read = read; shown = sh } })
   unfolding printerOf
   by-unreadable none is f to sh e w = (rw (w .0, is, e), w .1)
   by-unreadable (some counts) is f to sh e w = absurd (false≢true (sym f ∙ ap (λ (x : LineRead). x .readable) is))
 
-  by-stock : (o : Option (List ℕ)) → read ≡ lineRead o → read .readable ≡ true → (b : Begun) → Begins (stockOf read) line written b
-      → Prints line o written (record { length = b .length; printer = record { read = read; shown = b .shown } })
+  by-stock : (o : Option (List ℕ)) → read ≡ lineRead o → read .readable ≡ true → (b : Begun) → Starts (stockOf read) line written b
+      → Prints (linesOf o) (printerOf o) line written (record { length = b .length; printer = record { read = read; shown = b .shown } })
   unfolding printerOf
   by-stock none is f b w = absurd (false≢true (sym (ap (λ (x : LineRead). x .readable) is) ∙ f))
   by-stock (some counts) is f b w = go (rw (is, take-append-seam counts (replicate (128 - length counts) 0)) at w)
     where
-      go : Begins counts line written b → Prints line (some counts) written (record { length = b .length; printer = record { read = read; shown = b .shown } })
+      go : Starts counts line written b → Prints (stockLines counts) (printerOf (some counts)) line written (record { length = b .length; printer = record { read = read; shown = b .shown } })
       go v = (rw (v .0, is), v .1)
 
   module _ (input : List ℕ) (is : read ≡ lineRead (readCounts input)) where
     pub printed-unreadable : read .readable ≡ false → (to : ℕ) (sh : Shown) → sh ≡ nowhere → Puts line 0 unreadableLine written to
-        → (_≡_ {A = Printed} record { length = to; printer = record { read = read; shown = sh } } (asPrinted (getD (output input) 0 []) (printerOf (readCounts input)))) × (written ≡ put line 0 (getD (output input) 0 []))
+        → Prints (output input) (printerOf (readCounts input)) line written (record { length = to; printer = record { read = read; shown = sh } })
     unfolding output
     printed-unreadable = by-unreadable (readCounts input) is
 
-    pub printed-stock : read .readable ≡ true → (b : Begun) → Begins (stockOf read) line written b
-        → (_≡_ {A = Printed} record { length = b .length; printer = record { read = read; shown = b .shown } } (asPrinted (getD (output input) 0 []) (printerOf (readCounts input)))) × (written ≡ put line 0 (getD (output input) 0 []))
+    pub printed-stock : read .readable ≡ true → (b : Begun) → Starts (stockOf read) line written b
+        → Prints (output input) (printerOf (readCounts input)) line written (record { length = b .length; printer = record { read = read; shown = b .shown } })
     unfolding output
     printed-stock = by-stock (readCounts input) is
 
 -- ---- the next line
 
 pub printed-next : (p : Printer) (line written : List ℕ) (to : ℕ) (sh : Shown) → Sound p → sh ≡ nextShown (stockOf (p .read)) (p .shown) → Puts line 0 (shownText sh) written to
-    → (_≡_ {A = Printed} record { length = to; printer = record { read = p .read; shown = sh } } (asPrinted (getD (rest p) 0 []) (after p))) × (written ≡ put line 0 (getD (rest p) 0 []))
+    → Prints (rest p) (after p) line written (record { length = to; printer = record { read = p .read; shown = sh } })
 unfolding after
 printed-next p line written to sh s e w = go (rw (e, text-next (stockOf (p .read)) (p .shown) (s .shows)) at w)
   where
     go : Puts line 0 (getD (rest p) 0 []) written to
-        → (_≡_ {A = Printed} record { length = to; printer = record { read = p .read; shown = sh } } (asPrinted (getD (rest p) 0 []) (after p))) × (written ≡ put line 0 (getD (rest p) 0 []))
+        → Prints (rest p) (after p) line written (record { length = to; printer = record { read = p .read; shown = sh } })
     go v = (rw (v .0, zero-add (length (getD (rest p) 0 [])), e), v .1)

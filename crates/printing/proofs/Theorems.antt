@@ -27,7 +27,7 @@ use Rattle.counts.proofs.Readings.{readable-read}
 use Rattle.printing.specs.declared.printer.Printer.{Printer}
 use Rattle.printing.specs.declared.printer.Printed.{Printed}
 use Rattle.printing.specs.Output.{linesFrom, stripLines, stockLines, linesOf, output}
-use Rattle.printing.specs.States.{shownAt, nowhere, linesLeft, Shows, stockOf, Sound, shownFirst, printerOf, after, rest, asPrinted}
+use Rattle.printing.specs.States.{shownAt, nowhere, linesLeft, Shows, stockOf, Sound, shownFirst, printerOf, after, rest, Prints}
 use Rattle.printing.proofs.Listing.{lines-many}
 use Rattle.printing.proofs.Standing.{some-shown, left-are, shows-next, left-next}
 use Rattle.printing.proofs.Answering.{read-inside}
@@ -127,7 +127,7 @@ pub record Gives (lines : List (List ℕ)) (line written : List ℕ) (r : Printe
   pub sound : Sound (r .printer)
   pub left : rest (r .printer) ≡ drop 1 lines
 
-gives : (lines : List (List ℕ)) (line written : List ℕ) (r : Printed) (p : Printer) → (r ≡ asPrinted (getD lines 0 []) p) × (written ≡ put line 0 (getD lines 0 [])) → Sound p → rest p ≡ drop 1 lines
+gives : (lines : List (List ℕ)) (line written : List ℕ) (r : Printed) (p : Printer) → Prints lines p line written r → Sound p → rest p ≡ drop 1 lines
     → Gives lines line written r
 gives lines line written r p h s l =
     let t = getD lines 0 [] in
@@ -135,11 +135,11 @@ gives lines line written r p h s l =
     rw (h .0) (record { bytes = refl; inside = omega (arith, n); text = h .1; sound = s; left = l })
 
 pub first-gives : (input line written : List ℕ) (r : Printed)
-    → (r ≡ asPrinted (getD (output input) 0 []) (printerOf (readCounts input))) × (written ≡ put line 0 (getD (output input) 0 [])) → Gives (output input) line written r
+    → Prints (output input) (printerOf (readCounts input)) line written r → Gives (output input) line written r
 first-gives input line written r h = gives (output input) line written r (printerOf (readCounts input)) h (first-sound (readCounts input)) (rest-first input)
 
 pub next-gives : (p : Printer) (line written : List ℕ) (r : Printed) → Sound p
-    → (r ≡ asPrinted (getD (rest p) 0 []) (after p)) × (written ≡ put line 0 (getD (rest p) 0 [])) → Gives (rest p) line written r
+    → Prints (rest p) (after p) line written r → Gives (rest p) line written r
 next-gives p line written r s h = gives (rest p) line written r (after p) h (next-sound p s) (rest-next p s)
 
 pub first-right : (κs : Lfts 2) (a : Dens κs first-line.ps) (r : Printed) (s : AtExit (endedOf 2 first-line.ps first-line.r) κs) → first-line-reads.Post κs a r s

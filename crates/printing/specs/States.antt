@@ -12,8 +12,9 @@ use Rattle.rules.specs.Stock.{IsStock}
 use Rattle.rules.specs.Book.{book}
 use Rattle.rules.specs.Refusals.{firstOf, unless, stockNos}
 use Rattle.walker.specs.Walkers.{walkerOf, allForward}
-use Rattle.counts.specs.declared.LineRead.{LineRead}
 use Rattle.lines.specs.Text.{stripLine}
+use Rattle.lines.specs.Puts.{put}
+use Rattle.counts.specs.declared.LineRead.{LineRead}
 use Rattle.counts.specs.Reading.{lineRead}
 use Rattle.printing.specs.declared.shown.Shown.{Shown}
 use Rattle.printing.specs.declared.printer.Begun.{Begun}
@@ -91,8 +92,18 @@ after p = record { read = p .read; shown = nextShown (stockOf (p .read)) (p .sho
 abbrev pub rest : Printer → List (List ℕ)
 rest p = linesLeft (stockOf (p .read)) (p .shown)
 
+-- ---- the answers
+
 abbrev pub asBegun : List ℕ → Shown → Begun
 asBegun text sh = record { length = length text; shown = sh }
 
 abbrev pub asPrinted : List ℕ → Printer → Printed
 asPrinted text p = record { length = length text; printer = p }
+
+-- the first of some lines is written at the start of a lent line; the answer is its length, and the strip that is then shown
+abbrev pub Begins : List (List ℕ) → Shown → List ℕ → List ℕ → Begun → Type 0
+Begins lines sh line written r = (r ≡ asBegun (getD lines 0 []) sh) × (written ≡ put line 0 (getD lines 0 []))
+
+-- the same with the printer
+abbrev pub Prints : List (List ℕ) → Printer → List ℕ → List ℕ → Printed → Type 0
+Prints lines p line written r = (r ≡ asPrinted (getD lines 0 []) p) × (written ≡ put line 0 (getD lines 0 []))

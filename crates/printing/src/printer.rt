@@ -10,14 +10,12 @@ use lines::writing::put_strip;
 use lines::writing::put_unreadable;
 use stock::check_stock;
 ghost use Prim.Native.Nat.{_≤_};
-ghost use mathlib.Core.Path.{_≡_};
 ghost use mathlib.Core.Option.{some};
-ghost use mathlib.Core.List.{[]};
-ghost use lib.ListN.{length, getD};
+ghost use lib.ListN.{length};
 ghost use Rattle.counts.specs.Reading.{readCounts};
-ghost use Rattle.lines.specs.Puts.{put, Puts};
+ghost use Rattle.lines.specs.Puts.{Puts};
 ghost use Rattle.printing.specs.Output.{stockLines, output};
-ghost use Rattle.printing.specs.States.{shownText, Fits, Sound, shownFirst, printerOf, after, rest, asBegun, asPrinted};
+ghost use Rattle.printing.specs.States.{shownText, Fits, Sound, shownFirst, printerOf, after, rest, Begins, Prints};
 
 // What was read, and the strip that is shown.
 pub struct Printer {
@@ -53,7 +51,7 @@ fn put_shown(shown: Shown, line: &mut [u8]) -> usize
 // The first line of a stock.
 fn begin(stock: &[u16], line: &mut [u8]) -> Begun
     requires { ⌜ 200 ≤ length (now line) ⌝ }
-    ensures { λ r. ⌜ (r ≡ asBegun (getD (stockLines (now (stock .entry))) 0 []) (shownFirst (some (now (stock .entry))))) × (now (line .exit) ≡ put (now (line .entry)) 0 (getD (stockLines (now (stock .entry))) 0 [])) ⌝ }
+    ensures { λ r. ⌜ Begins (stockLines (now (stock .entry))) (shownFirst (some (now (stock .entry)))) (now (line .entry)) (now (line .exit)) r ⌝ }
 {
     let refusal = check_stock(stock);
     let no = refusal.no;
@@ -70,7 +68,7 @@ fn begin(stock: &[u16], line: &mut [u8]) -> Begun
 // The first line of an input.
 pub fn first_line(input: &[u8], line: &mut [u8]) -> Printed
     requires { ⌜ 200 ≤ length (now line) ⌝ }
-    ensures { λ r. ⌜ (r ≡ asPrinted (getD (output (now (input .entry))) 0 []) (printerOf (readCounts (now (input .entry))))) × (now (line .exit) ≡ put (now (line .entry)) 0 (getD (output (now (input .entry))) 0 [])) ⌝ }
+    ensures { λ r. ⌜ Prints (output (now (input .entry))) (printerOf (readCounts (now (input .entry)))) (now (line .entry)) (now (line .exit)) r ⌝ }
 {
     let read = read_line(input);
     if !read.readable {
@@ -93,7 +91,7 @@ pub fn first_line(input: &[u8], line: &mut [u8]) -> Printed
 // The next line, if one is left.
 pub fn next_line(printer: Printer, line: &mut [u8]) -> Printed
     requires { ⌜ Sound printer × (200 ≤ length (now line)) ⌝ }
-    ensures { λ r. ⌜ (r ≡ asPrinted (getD (rest printer) 0 []) (after printer)) × (now (line .exit) ≡ put (now (line .entry)) 0 (getD (rest printer) 0 [])) ⌝ }
+    ensures { λ r. ⌜ Prints (rest printer) (after printer) (now (line .entry)) (now (line .exit)) r ⌝ }
 {
     let read = printer.read;
     let kinds = read.kinds;
