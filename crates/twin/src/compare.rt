@@ -17,7 +17,6 @@ use crate::tally::note;
 // The strip of a number by itself.
 fn compare_strip(tally: &mut [u64; 32], stock: &[u16], book: &[u8], i: usize, work: &mut [u8]) {
     let blocks = strip_at(book, i, work.len());
-    tally::count(tally, tally::STRIPS);
     note(tally, tally::NUMBER, number_agrees(stock, blocks, i));
     note(tally, tally::STRIP, strip_agrees(stock, blocks, i, work));
     note(
@@ -72,33 +71,21 @@ fn compare_run(
     replay(tally, book, work, list);
 }
 
-// Run with room for all moves of the book, and with room for half of them, since a move takes two bytes.
-fn compare_runs(
-    tally: &mut [u64; 32],
-    stock: &[u16],
-    book: &[u8],
-    work: &mut [u8],
-    list: &mut [u8],
-) {
-    compare_run(tally, stock, book, work, list);
+// Run with room for every move of the book, and with room for half of them, since a move takes two bytes.
+fn compare_runs(tally: &mut [u64; 32], stock: &[u16], book: &[u8], work: &mut [u8]) {
+    let mut list: [u8; 10080] = [0; 10080];
+    compare_run(tally, stock, book, work, &mut list);
     let moves = last(book);
-    if moves <= list.len() {
+    if moves <= 10080 {
         compare_run(tally, stock, book, work, &mut list[0..moves]);
     }
 }
 
-// The book of a stock, with a strip and a list of moves to work on.
-pub fn compare_book(
-    tally: &mut [u64; 32],
-    stock: &[u16],
-    book: &[u8],
-    work: &mut [u8],
-    list: &mut [u8],
-) {
+// The book of a stock, with a strip to work on.
+pub fn compare_book(tally: &mut [u64; 32], stock: &[u16], book: &[u8], work: &mut [u8]) {
     let first = strip_at(book, 0, work.len());
-    tally::count(tally, tally::STOCKS);
     note(tally, tally::COUNT, count_agrees(stock, book.len() / 8));
     note(tally, tally::FIRST, first_agrees(stock, first, work));
-    compare_runs(tally, stock, book, work, list);
+    compare_runs(tally, stock, book, work);
     compare_strips(tally, stock, book, work);
 }

@@ -1,4 +1,4 @@
-// Builds whole books by the rule of document 01 itself, for every stock of up to 6 blocks, and compares them number by number with what the
+// Builds whole books by the rule of document 01 itself, for every stock of up to 7 blocks, and compares them number by number with what the
 // calls answer. Words and strips are listed one after the other: nothing is ranked, and no strip is moved to get the next one.
 mod books;
 mod compare;
@@ -22,7 +22,7 @@ use stocks::cut;
 ghost use Prim.Native.Nat.{_≤_};
 
 // The largest n.
-const MOST: usize = 6;
+const MOST: usize = 7;
 
 fn front(counts: &[u16], kinds: usize) -> &[u16] {
     if kinds <= counts.len() {
@@ -31,19 +31,12 @@ fn front(counts: &[u16], kinds: usize) -> &[u16] {
     counts
 }
 
-// A book with a strip of n blocks and a list of 720 moves to work on.
+// A book with a strip of n blocks to work on.
 fn compare_on(tally: &mut [u64; 32], stock: &[u16], shelf: &[u8; BYTES], book: Book, n: usize)
     requires { ⌜ n ≤ 8 ⌝ }
 {
     let mut work: [u8; 8] = [0; 8];
-    let mut list: [u8; 1440] = [0; 1440];
-    compare_book(
-        tally,
-        stock,
-        rows_of(shelf, book),
-        &mut work[0..n],
-        &mut list,
-    );
+    compare_book(tally, stock, rows_of(shelf, book), &mut work[0..n]);
 }
 
 // The stock of the first counts.

@@ -2,10 +2,10 @@
 //
 // A row is eight bytes: a strip, zeros, and in the last byte its directions, where bit j - 1 is set if kind j runs backward.
 
-// Room for 1 + 2 + 6 + 24 + 120 + 720 rows, which six kinds of one block take.
-pub const ROWS: usize = 873;
+// Room for 1 + 2 + 6 + 24 + 120 + 720 + 5040 rows, which seven kinds of one block take.
+pub const ROWS: usize = 5913;
 
-pub const BYTES: usize = 6984;
+pub const BYTES: usize = 47304;
 
 // A book: its first row, and the row behind its last.
 pub struct Book {

@@ -2,37 +2,32 @@
 use io::print_decimal;
 use io::write_all;
 
-// What is counted; how often it disagreed stands 16 further on.
-pub const STOCKS: usize = 0;
+// A number for each call that is compared; how often it disagreed stands 16 further on.
+pub const COUNT: usize = 0;
 
-pub const STRIPS: usize = 1;
+pub const FIRST: usize = 1;
 
-pub const COUNT: usize = 2;
+pub const NUMBER: usize = 2;
 
-pub const FIRST: usize = 3;
+pub const STRIP: usize = 3;
 
-pub const NUMBER: usize = 4;
+pub const OPEN: usize = 4;
 
-pub const STRIP: usize = 5;
+pub const FORWARD: usize = 5;
 
-pub const OPEN: usize = 6;
+pub const BACK: usize = 6;
 
-pub const FORWARD: usize = 7;
+pub const RUN: usize = 7;
 
-pub const BACK: usize = 8;
+pub const LISTED: usize = 8;
 
-pub const RUN: usize = 9;
+pub const WHICH: usize = 9;
 
-pub const LISTED: usize = 10;
+pub const EARLIER: usize = 10;
 
-pub const WHICH: usize = 11;
+pub const DISTANCE: usize = 11;
 
-pub const EARLIER: usize = 12;
-
-pub const DISTANCE: usize = 13;
-
-// One more.
-pub fn count(tally: &mut [u64; 32], i: usize) {
+fn add_one(tally: &mut [u64; 32], i: usize) {
     if i < 32 {
         let seen = tally[i];
         if seen < 1000000000 {
@@ -43,12 +38,12 @@ pub fn count(tally: &mut [u64; 32], i: usize) {
 
 // One comparison.
 pub fn note(tally: &mut [u64; 32], call: usize, agrees: bool) {
-    count(tally, call);
+    add_one(tally, call);
     if agrees {
         return;
     }
     if call < 16 {
-        count(tally, call + 16);
+        add_one(tally, call + 16);
     }
 }
 
@@ -65,19 +60,33 @@ fn line(words: &[u8], tally: &[u64; 32], call: usize) {
     }
 }
 
-pub fn print(tally: &[u64; 32]) {
-    said(b"Stocks: ", tally[STOCKS]);
-    said(b"\nStrips: ", tally[STRIPS]);
-    line(b"\nCount: ", tally, COUNT);
+fn print_single(tally: &[u64; 32]) {
+    line(b"Count: ", tally, COUNT);
     line(b"First: ", tally, FIRST);
     line(b"Number: ", tally, NUMBER);
     line(b"Strip: ", tally, STRIP);
     line(b"Open: ", tally, OPEN);
+}
+
+fn print_moves(tally: &[u64; 32]) {
     line(b"Forward: ", tally, FORWARD);
     line(b"Back: ", tally, BACK);
     line(b"Run: ", tally, RUN);
     line(b"Moves that Run lists: ", tally, LISTED);
+}
+
+fn print_pairs(tally: &[u64; 32]) {
     line(b"Which: ", tally, WHICH);
     line(b"Earlier: ", tally, EARLIER);
     line(b"Distance: ", tally, DISTANCE);
+}
+
+// Count is compared once a stock, and Number once a strip.
+pub fn print(tally: &[u64; 32]) {
+    said(b"Stocks: ", tally[COUNT]);
+    said(b"\nStrips: ", tally[NUMBER]);
+    write_all(1, b"\n");
+    print_single(tally);
+    print_moves(tally);
+    print_pairs(tally);
 }

@@ -8,7 +8,7 @@ abbrev Inv-loop : tie.InvT-loop
 Inv-loop lists tally₀ places₀ tally places = Unit {0}
 
 abbrev μ-loop : tie.MeasureT-loop
-μ-loop lists tally₀ places₀ tally places = 6 - places
+μ-loop lists tally₀ places₀ tally places = 7 - places
 
 pub compare-all-spec : {M : Type 1} → statement M
 compare-all-spec =
