@@ -27,9 +27,9 @@ pub fn moves_at(sheet: &[u8], at: usize, opening: Opening, buffer: &mut [u8]) ->
     let mut strip = opening.strip;
     let blocks = opening.blocks;
     let readout = follow_from(sheet, at, &counts[..kinds], &mut strip[..blocks]);
-    let refusal = readout.refusal;
-    let no = refusal.no;
-    if no != 0 {
+    let after = readout.refusal;
+    let last = after.no;
+    if last != 0 {
         return readout;
     }
     lay_in(&strip[..blocks], buffer);
