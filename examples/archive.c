@@ -1,6 +1,6 @@
 /* Looks a strip up by its number, as the archive does when a decorator rings: archive NUMBER COUNT..
- * It prints the strip with the number that the strip itself has, and then the next strips of the book, each with the
- * two places whose blocks the press exchanges to come to it. */
+ * It prints the strip with the number that the strip itself has, then the next strips of the book, each with the two
+ * places whose blocks the press exchanges to come to it, and the press sheet of these moves. */
 #include <errno.h>
 #include <stdbool.h>
 #include <stdio.h>
@@ -62,6 +62,31 @@ static bool print_next(const uint16_t *stock, size_t kinds, const uint8_t *strip
     return true;
 }
 
+/* Prints the press sheet of the moves that follow, a record a line. */
+static bool print_sheet(const uint16_t *stock, size_t kinds, const uint8_t *strip, size_t length)
+{
+    uint8_t sheet[83 + 3 * MOVES];
+    uint64_t moves = MOVES;
+    nelfrupi_written written = nelfrupi_write_sheet(stock, kinds, strip, length, moves, sheet, sizeof sheet);
+    while (written.refusal.no == 9) {
+        moves--; /* near the end of the book fewer are left */
+        written = nelfrupi_write_sheet(stock, kinds, strip, length, moves, sheet, sizeof sheet);
+    }
+    if (!accepted(written.refusal)) {
+        return false;
+    }
+    printf("press sheet, %llu bytes:\n", (unsigned long long)written.length);
+    for (size_t at = 0; at < written.length;) {
+        size_t body = sheet[at] == 1 ? 16 : sheet[at] == 2 ? 64 : sheet[at] == 3 ? 2 : 0;
+        for (size_t i = 0; i <= body; i++) {
+            printf(i == 0 ? "%u" : " %u", (unsigned)sheet[at + i]);
+        }
+        printf("\n");
+        at += 1 + body;
+    }
+    return true;
+}
+
 int main(int argc, char **argv)
 {
     uint16_t stock[MOST_BLOCKS];
@@ -91,5 +116,5 @@ int main(int argc, char **argv)
     }
     print_strip(numbered.number, strip, length);
     printf("\n");
-    return print_next(stock, kinds, strip, length, numbered.number) ? 0 : 1;
+    return print_next(stock, kinds, strip, length, numbered.number) && print_sheet(stock, kinds, strip, length) ? 0 : 1;
 }

@@ -31,8 +31,13 @@
  *    6  a strip has more or fewer blocks of a kind than its count       the smallest such kind
  *    7  T is 2^64 or more                                               0
  *    8  the number is T or more                                         0
- *    9  no strip follows in the book, or for going back none precedes   0
+ *    9  no strip follows in the book, or for going back none precedes;  0
+ *       for writing a sheet, fewer strips follow than moves are asked
  *   10  the walker is not the one of the strip                          the smallest kind whose direction is wrong
+ *   11  a record of a sheet is missing, unknown, out of order or cut    the record's first byte, counted from 0, or
+ *       short, a strip's padding is not zero, or bytes follow the end   that of the first byte after the end
+ *   12  a move of a sheet is not the next one, or none is left          the record's first byte, counted from 0
+ *   13  a sheet has under 83 + 3c bytes for c moves                     0
  *   14  the distance is below -2^63, or above 2^63 - 1                  0
  */
 #ifndef NELFRUPI_H
@@ -169,6 +174,35 @@ typedef struct {
  * Refused: 1, 2, 3, 4, 5, 6, 10; the strip and the list are then as they were. */
 nelfrupi_ran nelfrupi_run(const uint16_t *stock, size_t kinds, uint8_t *strip, size_t length, nelfrupi_walker walker,
                           uint8_t *list, size_t list_length);
+
+/* ---- press sheets, also where T is 2^64 or more
+ *
+ * A sheet is a row of records, each a byte of kind and a body: 1 and sixteen bytes, the counts, with 0 for each kind
+ * that the stock has not; 2 and 64 bytes, the strip, with 0 after place n; 3 and two bytes for each move on, its places,
+ * smaller first; and 4, the end. With c moves it has 83 + 3c bytes. */
+
+typedef struct {
+    nelfrupi_refusal refusal;
+    uint64_t length; /* the bytes that were written, 83 + 3c */
+} nelfrupi_written;
+
+/* Writing: the sheet of a stock, a strip of it and c moves on from there, at the start of the lent sheet, whose later
+ * bytes are as they were. The strip is not moved.
+ * Refused: 1, 2, 3, 4, 5, 6, 13, 9; the sheet is then as it was. */
+nelfrupi_written nelfrupi_write_sheet(const uint16_t *stock, size_t kinds, const uint8_t *strip, size_t length,
+                                      uint64_t moves, uint8_t *sheet, size_t sheet_length);
+
+typedef struct {
+    nelfrupi_refusal refusal;
+    uint64_t moves; /* c */
+} nelfrupi_readout;
+
+/* Reading: takes exactly the sheets that writing gives, and writes the strip after the last move into the first n bytes
+ * of the buffer, whose later bytes are as they were. The buffer has 64 bytes or more.
+ * Refused: 4 for a buffer under 64 bytes; then record by record: 11 for a kind, an order or a body cut short; 1 (no
+ * count but 0), 2 (a count of 0 before one that is not), 3 in the stock; 5, 6, then 11 for the padding, in the strip;
+ * 12 in a move. A record that is missing is 11 at the sheet's length. The buffer is then as it was. */
+nelfrupi_readout nelfrupi_read_sheet(const uint8_t *sheet, size_t sheet_length, uint8_t *buffer, size_t length);
 
 #ifdef __cplusplus
 }

@@ -8,13 +8,16 @@ use comparing::which::which;
 use counting::count::Counted;
 use counting::count::count;
 use counting::first::first;
+use following::Readout;
 use numbering::number::Numbered;
 use numbering::number::number;
 use numbering::strip::strip;
 use papers::Asked;
 use papers::same_paper;
+use reading::reader::read_sheet;
 use running::run::Ran;
 use running::run::run;
+use sheets::Written;
 use stock::Refusal;
 use walker::Walker;
 use walker::open::Opened;
@@ -22,6 +25,7 @@ use walker::open::open;
 use walking::Moved;
 use walking::back::back;
 use walking::forward::forward;
+use writing::sheet::write_sheet;
 ghost use mathlib.Core.Path.{_≡_};
 ghost use mathlib.Core.Bool.{true, false};
 ghost use Rattle.counting.specs.Answers.{countAnswer, firstAnswer, firstAfter};
@@ -31,6 +35,8 @@ ghost use Rattle.walker.specs.Answers.{openAnswer};
 ghost use Rattle.walking.specs.Answers.{moveAnswer, moveStrip};
 ghost use Rattle.running.specs.Answers.{runAnswer, runStrip, runList};
 ghost use Rattle.papers.specs.Papers.{samePaperAnswer};
+ghost use Rattle.sheets.specs.Writing.{writeAnswer, writeSheet};
+ghost use Rattle.reading.specs.Reading.{readAnswer, readBuffer};
 
 #[no_mangle]
 pub extern "C" fn nelfrupi_count(stock: &[u16]) -> Counted
@@ -112,4 +118,23 @@ pub extern "C" fn nelfrupi_same_paper(stock: &[u16], first: &[u8], second: &[u8]
     ensures { λ r. ⌜ r ≡ samePaperAnswer (now (stock .entry)) (now (first .entry)) (now (second .entry)) ⌝ }
 {
     same_paper(stock, first, second)
+}
+
+#[no_mangle]
+pub extern "C" fn nelfrupi_write_sheet(
+    stock: &[u16],
+    strip: &[u8],
+    moves: u64,
+    sheet: &mut [u8],
+) -> Written
+    ensures { λ r. ⌜ (r ≡ writeAnswer (now (stock .entry)) (now (strip .entry)) moves (now (sheet .entry))) × (now (sheet .exit) ≡ writeSheet (now (stock .entry)) (now (strip .entry)) moves (now (sheet .entry))) ⌝ }
+{
+    write_sheet(stock, strip, moves, sheet)
+}
+
+#[no_mangle]
+pub extern "C" fn nelfrupi_read_sheet(sheet: &[u8], buffer: &mut [u8]) -> Readout
+    ensures { λ r. ⌜ (r ≡ readAnswer (now (sheet .entry)) (now (buffer .entry))) × (now (buffer .exit) ≡ readBuffer (now (sheet .entry)) (now (buffer .entry))) ⌝ }
+{
+    read_sheet(sheet, buffer)
 }

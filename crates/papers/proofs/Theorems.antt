@@ -9,7 +9,7 @@ use borrow.Fn.Kinds.{Dens, endedOf}
 use denote.Triple.Clauses.{AtExit}
 use Rattle.rules.specs.Book.{same}
 use Rattle.rules.specs.Outcome.{OneAnswer}
-use Rattle.rules.proofs.Refusals.{unless-passed}
+use Rattle.rules.proofs.Refusals.{unless-refused, unless-passed}
 use Rattle.rules.proofs.Places.{same-self, same-true}
 use Rattle.papers.specs.declared.Asked.{Asked}
 use Rattle.papers.specs.Papers.{turned, isTurn, samePaperAnswer}
@@ -32,6 +32,11 @@ module _ (κs : Lfts 3) (a : Dens κs same-paper.ps) (r : Asked) (s : AtExit (en
   same-is : r .refusal .no ≡ 0 → r .same ≡ isTurn first second
   unfolding samePaperAnswer
   same-is e = ap (λ (r : Asked). r .same) h ∙ unless-passed false _ _ (sym (ap (λ (r : Asked). r .refusal .no) h) ∙ e)
+
+  -- a refused answer is no
+  pub refused-no : (r .refusal .no ≡ 0 → ⊥) → r .same ≡ false
+  unfolding samePaperAnswer
+  refused-no e = ap (λ (r : Asked). r .same) h ∙ unless-refused false _ _ (λ k. e (ap (λ (r : Asked). r .refusal .no) h ∙ k))
 
   -- yes: the second strip is the first turned by some number of places below n
   pub yes-turned : r .refusal .no ≡ 0 → r .same ≡ true → (t : ℕ) × (t < length first) × (turned t first ≡ second)

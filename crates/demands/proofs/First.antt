@@ -1,0 +1,162 @@
+-- Demand 1, call by call: whatever the input, the call answers the first row of its list that is met, and a refusal leaves everything lent as it was.
+-- That each call takes any input and comes back is what its own proof says: no call has a `requires`.
+use mathlib.Core.Path.{_≡_, ap}
+use mathlib.Core.Bool.{true, false}
+use lib.IntN.{pos}
+use contract.Lifetimes.{Lfts}
+use borrow.Fn.Kinds.{Dens, endedOf}
+use denote.Triple.Clauses.{AtExit}
+use Rattle.rules.specs.Refusals.{firstOf, checkNos, bufferNos, pairNos}
+use Rattle.stock.specs.declared.Refusal.{Refusal}
+use Rattle.demands.specs.Refusing.{Refuses}
+use Rattle.counting.specs.declared.count.Counted.{Counted}
+use Rattle.counting.specs.Answers.{countNos, countAnswer, firstAnswer}
+use Rattle.counting.proofs.Theorems.{count-right, first-right}
+use Rattle.counting.proofs.count.count.Kinds as count
+use Rattle.counting.proofs.count.count.Reads as count-reads
+use Rattle.counting.proofs.first.first.Kinds as first
+use Rattle.counting.proofs.first.first.Reads as first-reads
+use Rattle.numbering.specs.declared.number.Numbered.{Numbered}
+use Rattle.numbering.specs.Answers.{numberNos, numberAnswer, byNumberNos, stripAnswer}
+use Rattle.numbering.proofs.Theorems.{number-right, strip-right}
+use Rattle.numbering.proofs.number.number.Kinds as number
+use Rattle.numbering.proofs.number.number.Reads as number-reads
+use Rattle.numbering.proofs.strip.strip.Kinds as strip
+use Rattle.numbering.proofs.strip.strip.Reads as strip-reads
+use Rattle.comparing.specs.declared.which.Compared.{Compared}
+use Rattle.comparing.specs.declared.distance.Apart.{Apart}
+use Rattle.comparing.specs.Answers.{Lent, EmptyPart, whichAnswer, distanceNos, distanceAnswer}
+use Rattle.comparing.proofs.Theorems.{which-refused-zero, earlier-refused, distance-refused-zero}
+use Rattle.comparing.proofs.which.which.Kinds as which
+use Rattle.comparing.proofs.which.which.Reads as which-reads
+use Rattle.comparing.proofs.earlier.earlier.Kinds as earlier
+use Rattle.comparing.proofs.earlier.earlier.Reads as earlier-reads
+use Rattle.comparing.proofs.distance.distance.Kinds as distance
+use Rattle.comparing.proofs.distance.distance.Reads as distance-reads
+use Rattle.walker.specs.declared.open.Opened.{Opened}
+use Rattle.walker.specs.Walkers.{allForward}
+use Rattle.walker.specs.Answers.{openAnswer}
+use Rattle.walker.proofs.Theorems.{refused-forward}
+use Rattle.walker.proofs.open.open.Kinds as opening
+use Rattle.walker.proofs.open.open.Reads as opening-reads
+use Rattle.walking.specs.declared.Moved.{Moved}
+use Rattle.walking.specs.Answers.{moveNos, moveAnswer}
+use Rattle.walking.proofs.Theorems.{forward-right, back-right}
+use Rattle.walking.proofs.forward.forward.Kinds as forward
+use Rattle.walking.proofs.forward.forward.Reads as forward-reads
+use Rattle.walking.proofs.back.back.Kinds as back
+use Rattle.walking.proofs.back.back.Reads as back-reads
+use Rattle.running.specs.declared.run.Ran.{Ran}
+use Rattle.running.specs.Answers.{runNos, runAnswer}
+use Rattle.running.proofs.Theorems.{run-right}
+use Rattle.running.proofs.run.run.Kinds as run
+use Rattle.running.proofs.run.run.Reads as run-reads
+use Rattle.papers.specs.declared.Asked.{Asked}
+use Rattle.papers.specs.Papers.{samePaperAnswer}
+use Rattle.papers.proofs.Theorems.{refused-no}
+use Rattle.papers.proofs.same_paper.Kinds as same-paper
+use Rattle.papers.proofs.same_paper.Reads as same-paper-reads
+use Rattle.sheets.specs.declared.Written.{Written}
+use Rattle.sheets.specs.Writing.{writeNos, writeAnswer}
+use Rattle.writing.proofs.Theorems.{refused-zero, refused-same}
+use Rattle.writing.proofs.sheet.write_sheet.Kinds as writing
+use Rattle.writing.proofs.sheet.write_sheet.Reads as writing-reads
+use Rattle.following.specs.declared.Readout.{Readout}
+use Rattle.reading.specs.Reading.{readNos, readAnswer}
+use Rattle.reading.proofs.Theorems.{refused-stays}
+use Rattle.reading.proofs.reader.read_sheet.Kinds as reading
+use Rattle.reading.proofs.reader.read_sheet.Reads as reading-reads
+
+-- ---- Count: 1, 2, 3, 7
+
+pub count-refuses : (κs : Lfts 1) (a : Dens κs count.ps) (r : Counted) (s : AtExit (endedOf 1 count.ps count.r) κs) → count-reads.Post κs a r s
+    → Refuses (countNos (a .0 .now)) (r .refusal) (r .total ≡ 0)
+unfolding countAnswer
+count-refuses κs a r s h = record { named = ap (λ (r : Counted). r .refusal) h; left = count-right κs a r s h .refused-zero }
+
+-- ---- First: 1, 2, 3, 4. The buffer stays
+
+pub first-refuses : (κs : Lfts 2) (a : Dens κs first.ps) (r : Refusal) (s : AtExit (endedOf 2 first.ps first.r) κs) → first-reads.Post κs a r s
+    → Refuses (bufferNos (a .0 .now) (a .1 .0 .now)) r (s .1 .0 .now ≡ a .1 .0 .now)
+unfolding firstAnswer
+first-refuses κs a r s h = record { named = h .0; left = first-right κs a r s h .kept }
+
+-- ---- Number: 1 to 6, 7
+
+pub number-refuses : (κs : Lfts 2) (a : Dens κs number.ps) (r : Numbered) (s : AtExit (endedOf 2 number.ps number.r) κs) → number-reads.Post κs a r s
+    → Refuses (numberNos (a .0 .now) (a .1 .0 .now)) (r .refusal) (r .number ≡ 0)
+unfolding numberAnswer
+number-refuses κs a r s h = record { named = ap (λ (r : Numbered). r .refusal) h; left = number-right κs a r s h .refused-zero }
+
+-- ---- Strip: 1, 2, 3, 4, 7, 8. The buffer stays
+
+pub strip-refuses : (κs : Lfts 2) (a : Dens κs strip.ps) (r : Refusal) (s : AtExit (endedOf 2 strip.ps strip.r) κs) → strip-reads.Post κs a r s
+    → Refuses (byNumberNos (a .0 .now) (a .1 .0) (a .1 .1 .0 .now)) r (s .1 .1 .0 .now ≡ a .1 .1 .0 .now)
+unfolding stripAnswer
+strip-refuses κs a r s h = record { named = h .0; left = strip-right κs a r s h .kept }
+
+-- ---- Which: 1, 2, 3; 4, 5, 6 of the first strip, then of the second. Earlier is refused alike: then it is the empty part at the start of the first lent strip
+
+pub which-refuses : (κs : Lfts 3) (a : Dens κs which.ps) (r : Compared) (s : AtExit (endedOf 3 which.ps which.r) κs) → which-reads.Post κs a r s
+    → Refuses (pairNos (a .0 .now) (a .1 .0 .now) (a .1 .1 .0 .now)) (r .refusal) (r .which ≡ 0)
+unfolding whichAnswer
+which-refuses κs a r s h = record { named = ap (λ (r : Compared). r .refusal) h; left = which-refused-zero κs a r s h }
+
+pub earlier-refuses : (κs : Lfts 2) (a : Dens κs earlier.ps) (r : Lent) (s : AtExit (endedOf 2 earlier.ps earlier.r) κs) → earlier-reads.Post κs a r s
+    → (firstOf (pairNos (a .0 .now) (a .1 .0 .now) (a .1 .1 .0 .now)) .0 ≡ 0 → ⊥) → EmptyPart (a .1 .0) r
+earlier-refuses κs a r s h = earlier-refused κs a r s h
+
+-- ---- Distance: as Which, then 7, 14
+
+pub distance-refuses : (κs : Lfts 3) (a : Dens κs distance.ps) (r : Apart) (s : AtExit (endedOf 3 distance.ps distance.r) κs) → distance-reads.Post κs a r s
+    → Refuses (distanceNos (a .0 .now) (a .1 .0 .now) (a .1 .1 .0 .now)) (r .refusal) (r .moves ≡ pos 0)
+unfolding distanceAnswer
+distance-refuses κs a r s h = record { named = ap (λ (r : Apart). r .refusal) h; left = distance-refused-zero κs a r s h }
+
+-- ---- Open: 1 to 6. All directions forward
+
+pub open-refuses : (κs : Lfts 2) (a : Dens κs opening.ps) (r : Opened) (s : AtExit (endedOf 2 opening.ps opening.r) κs) → opening-reads.Post κs a r s
+    → Refuses (checkNos (a .0 .now) (a .1 .0 .now)) (r .refusal) (r .walker ≡ allForward)
+unfolding openAnswer
+open-refuses κs a r s h = record { named = ap (λ (r : Opened). r .refusal) h; left = refused-forward κs a r s h }
+
+-- ---- Forward, Back: 1 to 6, 10, 9. The strip stays, and the walker is the one lent
+
+pub forward-refuses : (κs : Lfts 2) (a : Dens κs forward.ps) (r : Moved) (s : AtExit (endedOf 2 forward.ps forward.r) κs) → forward-reads.Post κs a r s
+    → Refuses (moveNos false (a .0 .now) (a .1 .0 .now) (a .1 .1 .0)) (r .refusal) ((r .low ≡ 0) × (r .high ≡ 0) × (r .walker ≡ a .1 .1 .0) × (s .1 .0 .now ≡ a .1 .0 .now))
+unfolding moveAnswer
+forward-refuses κs a r s h = record { named = ap (λ (r : Moved). r .refusal) (h .0); left = forward-right κs a r s h .refused }
+
+pub back-refuses : (κs : Lfts 2) (a : Dens κs back.ps) (r : Moved) (s : AtExit (endedOf 2 back.ps back.r) κs) → back-reads.Post κs a r s
+    → Refuses (moveNos true (a .0 .now) (a .1 .0 .now) (a .1 .1 .0)) (r .refusal) ((r .low ≡ 0) × (r .high ≡ 0) × (r .walker ≡ a .1 .1 .0) × (s .1 .0 .now ≡ a .1 .0 .now))
+unfolding moveAnswer
+back-refuses κs a r s h = record { named = ap (λ (r : Moved). r .refusal) (h .0); left = back-right κs a r s h .refused }
+
+-- ---- Run: 1 to 6, 10. Strip and list stay, and the walker is the one lent
+
+pub run-refuses : (κs : Lfts 3) (a : Dens κs run.ps) (r : Ran) (s : AtExit (endedOf 3 run.ps run.r) κs) → run-reads.Post κs a r s
+    → Refuses (runNos (a .0 .now) (a .1 .0 .now) (a .1 .1 .0)) (r .refusal)
+    ((r .moves ≡ 0) × (r .last ≡ false) × (r .walker ≡ a .1 .1 .0) × (s .1 .0 .now ≡ a .1 .0 .now) × (s .1 .1 .1 .0 .now ≡ a .1 .1 .1 .0 .now))
+unfolding runAnswer
+run-refuses κs a r s h = record { named = ap (λ (r : Ran). r .refusal) (h .0); left = run-right κs a r s h .refused }
+
+-- ---- Same paper: as Which
+
+pub same-paper-refuses : (κs : Lfts 3) (a : Dens κs same-paper.ps) (r : Asked) (s : AtExit (endedOf 3 same-paper.ps same-paper.r) κs) → same-paper-reads.Post κs a r s
+    → Refuses (pairNos (a .0 .now) (a .1 .0 .now) (a .1 .1 .0 .now)) (r .refusal) (r .same ≡ false)
+unfolding samePaperAnswer
+same-paper-refuses κs a r s h = record { named = ap (λ (r : Asked). r .refusal) h; left = refused-no κs a r s h }
+
+-- ---- writing a sheet: 1 to 6, 13, 9. The sheet stays
+
+pub write-sheet-refuses : (κs : Lfts 3) (a : Dens κs writing.ps) (r : Written) (s : AtExit (endedOf 3 writing.ps writing.r) κs) → writing-reads.Post κs a r s
+    → Refuses (writeNos (a .0 .now) (a .1 .0 .now) (a .1 .1 .0) (a .1 .1 .1 .0 .now)) (r .refusal) ((r .length ≡ 0) × (s .1 .1 .1 .0 .now ≡ a .1 .1 .1 .0 .now))
+unfolding writeAnswer
+write-sheet-refuses κs a r s h = record { named = ap (λ (r : Written). r .refusal) (h .0); left = λ e. (refused-zero κs a r s h e, refused-same κs a r s h e) }
+
+-- ---- reading a sheet: 4, then record by record. The buffer stays
+
+pub read-sheet-refuses : (κs : Lfts 2) (a : Dens κs reading.ps) (r : Readout) (s : AtExit (endedOf 2 reading.ps reading.r) κs) → reading-reads.Post κs a r s
+    → Refuses (readNos (a .0 .now) (a .1 .0 .now)) (r .refusal) ((r .moves ≡ 0) × (s .1 .0 .now ≡ a .1 .0 .now))
+unfolding readAnswer
+read-sheet-refuses κs a r s h = record { named = ap (λ (r : Readout). r .refusal) (h .0); left = refused-stays κs a r s h }
