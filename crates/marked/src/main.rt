@@ -1,11 +1,13 @@
 // Runs the marked strips of document 01 that are not proved, the marked numbers of 1 2 2, and a strip for each refusal from 1 to 6. A line
 // says the call, what it was lent and what came.
-// Arrays go by value to a function that lends them, since each place that lends an array makes the check of its function longer.
+//
+// An array that many lines need is lent in one small function: each place that lends one makes the check of its function longer.
 mod lines;
 mod say;
 
 use counting::first::first;
 
+// A strip of counts 1 2 2.
 fn of_1_2_2(blocks: [u8; 5]) {
     lines::of_number(&[1, 2, 2], &blocks);
 }
@@ -32,7 +34,7 @@ fn single_kinds() {
     lines::of_count(&[0, 70]);
 }
 
-// The book of 30 31 1, which has nearly 2^64 strips.
+// A book with nearly 2^64 strips.
 fn long_book(stock: &[u16], front: &mut [u8], last: &mut [u8]) {
     lines::of_count(stock);
     lines::of_strip(stock, 14428278950913093727, last);
@@ -41,7 +43,7 @@ fn long_book(stock: &[u16], front: &mut [u8], last: &mut [u8]) {
     lines::of_distance(stock, front, last);
 }
 
-// The book of 31 31 1, which has 2^64 strips or more.
+// A book with 2^64 strips or more.
 fn longer_book(stock: &[u16], blocks: &mut [u8]) {
     lines::of_count(stock);
     first(stock, blocks);
@@ -49,14 +51,19 @@ fn longer_book(stock: &[u16], blocks: &mut [u8]) {
     lines::of_forward(stock, blocks);
 }
 
+// Four blocks, for any counts.
+fn of_1223(stock: &[u16]) {
+    lines::of_number(stock, &[1, 2, 2, 3]);
+}
+
 // Number with each refusal from 1 to 6: 0 70 has 2 and 3, and 12430 has 5 and 6.
 fn refused() {
-    lines::of_number(&[], &[1, 2, 2, 3]);
-    lines::of_number(&[1; 17], &[1, 2, 2, 3]);
-    lines::of_number(&[2, 0, 1], &[1, 2, 2, 3]);
-    lines::of_number(&[0, 70], &[1, 2, 2, 3]);
-    lines::of_number(&[65], &[1, 2, 2, 3]);
-    lines::of_number(&[1, 2, 2], &[1, 2, 2, 3]);
+    of_1223(&[]);
+    of_1223(&[1; 17]);
+    of_1223(&[2, 0, 1]);
+    of_1223(&[0, 70]);
+    of_1223(&[65]);
+    of_1223(&[1, 2, 2]);
     of_1_2_2([1, 2, 4, 3, 0]);
     of_1_2_2([1, 2, 3, 3, 3]);
 }

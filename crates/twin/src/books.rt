@@ -1,4 +1,5 @@
 // Whole books by the rule itself.
+use crate::patterns::Lists;
 use crate::patterns::all_k;
 use crate::patterns::bit;
 use crate::patterns::e;
@@ -6,8 +7,8 @@ use crate::patterns::has;
 use crate::patterns::turned;
 use crate::patterns::word_at;
 use crate::patterns::words;
-use crate::shelf::BYTES;
 use crate::shelf::Book;
+use crate::shelf::Shelf;
 use crate::shelf::behind;
 use crate::shelf::byte;
 use crate::shelf::put;
@@ -28,7 +29,7 @@ fn kind_at(j: usize) -> u8 {
 }
 
 // The blocks of the strip at the row `under`, in order, on the letters R of a word, and the kind on its letters K.
-fn lay_blocks(shelf: &mut [u8; BYTES], layer: Layer, word: u8, under: usize, row: usize) {
+fn lay_blocks(shelf: &mut Shelf, layer: Layer, word: u8, under: usize, row: usize) {
     let n = layer.n;
     let kind = kind_at(layer.j);
     let mut rests: usize = 0;
@@ -47,7 +48,7 @@ fn lay_blocks(shelf: &mut [u8; BYTES], layer: Layer, word: u8, under: usize, row
 }
 
 // The directions of the strip at the row `under`, and the kind's own.
-fn lay_directions(shelf: &mut [u8; BYTES], layer: Layer, back: bool, under: usize, row: usize) {
+fn lay_directions(shelf: &mut Shelf, layer: Layer, back: bool, under: usize, row: usize) {
     let below = byte(shelf, under, 7);
     if back {
         put(shelf, row, 7, below | bit(layer.j));
@@ -58,8 +59,8 @@ fn lay_directions(shelf: &mut [u8; BYTES], layer: Layer, back: bool, under: usiz
 
 // A row for each word of the kind's list, in order or backward. Gives the row behind the last.
 fn lay_list(
-    lists: &[u8; 2304],
-    shelf: &mut [u8; BYTES],
+    lists: &Lists,
+    shelf: &mut Shelf,
     layer: Layer,
     back: bool,
     under: usize,
@@ -81,7 +82,7 @@ fn lay_list(
 
 // The book with one kind more: each strip of the book before, in order, runs through the kind's list, forward where its number is even and
 // backward where it is odd.
-fn lay_kind(lists: &[u8; 2304], shelf: &mut [u8; BYTES], layer: Layer, book: Book) -> Book {
+fn lay_kind(lists: &Lists, shelf: &mut Shelf, layer: Layer, book: Book) -> Book {
     let from = book.to;
     let mut row = from;
     let mut under = book.from;
@@ -108,7 +109,7 @@ fn blocks_to(stock: &[u16], j: usize, below: usize) -> usize {
 }
 
 // The book of a stock, with the books of its first kinds before it on a shelf of zeros. That of kind 1 alone has one strip.
-pub fn build(lists: &[u8; 2304], shelf: &mut [u8; BYTES], stock: &[u16]) -> Book {
+pub fn build(lists: &Lists, shelf: &mut Shelf, stock: &[u16]) -> Book {
     let mut n = blocks_to(stock, 0, 0);
     lay_blocks(shelf, Layer { j: 0, n, list: 0 }, all_k(n), 0, 0);
     let mut book = Book { from: 0, to: 1 };

@@ -12,10 +12,11 @@ use crate::single::number_agrees;
 use crate::single::open_agrees;
 use crate::single::strip_agrees;
 use crate::tally;
+use crate::tally::Tally;
 use crate::tally::note;
 
 // The strip of a number by itself.
-fn compare_strip(tally: &mut [u64; 32], stock: &[u16], book: &[u8], i: usize, work: &mut [u8]) {
+fn compare_strip(tally: &mut Tally, stock: &[u16], book: &[u8], i: usize, work: &mut [u8]) {
     let blocks = strip_at(book, i, work.len());
     note(tally, tally::NUMBER, number_agrees(stock, blocks, i));
     note(tally, tally::STRIP, strip_agrees(stock, blocks, i, work));
@@ -27,7 +28,7 @@ fn compare_strip(tally: &mut [u64; 32], stock: &[u16], book: &[u8], i: usize, wo
 }
 
 // The moves from the strip of a number.
-fn compare_moves(tally: &mut [u64; 32], stock: &[u16], book: &[u8], i: usize, work: &mut [u8]) {
+fn compare_moves(tally: &mut Tally, stock: &[u16], book: &[u8], i: usize, work: &mut [u8]) {
     note(
         tally,
         tally::FORWARD,
@@ -37,7 +38,7 @@ fn compare_moves(tally: &mut [u64; 32], stock: &[u16], book: &[u8], i: usize, wo
 }
 
 // The strip of a number with the last strip, and with the one on from it where there is one.
-fn compare_pairs(tally: &mut [u64; 32], stock: &[u16], book: &[u8], i: usize, n: usize) {
+fn compare_pairs(tally: &mut Tally, stock: &[u16], book: &[u8], i: usize, n: usize) {
     let end = last(book);
     compare_pair(tally, stock, book, n, i, end);
     compare_pair(tally, stock, book, n, end, i);
@@ -47,7 +48,7 @@ fn compare_pairs(tally: &mut [u64; 32], stock: &[u16], book: &[u8], i: usize, n:
     }
 }
 
-fn compare_strips(tally: &mut [u64; 32], stock: &[u16], book: &[u8], work: &mut [u8]) {
+fn compare_strips(tally: &mut Tally, stock: &[u16], book: &[u8], work: &mut [u8]) {
     let n = work.len();
     let strips = book.len() / 8;
     let mut i = 0;
@@ -60,19 +61,13 @@ fn compare_strips(tally: &mut [u64; 32], stock: &[u16], book: &[u8], work: &mut 
 }
 
 // Run with the room of a lent list, and its moves one by one.
-fn compare_run(
-    tally: &mut [u64; 32],
-    stock: &[u16],
-    book: &[u8],
-    work: &mut [u8],
-    list: &mut [u8],
-) {
+fn compare_run(tally: &mut Tally, stock: &[u16], book: &[u8], work: &mut [u8], list: &mut [u8]) {
     note(tally, tally::RUN, run_agrees(stock, book, work, list));
     replay(tally, book, work, list);
 }
 
 // Run with room for every move of the book, and with room for half of them, since a move takes two bytes.
-fn compare_runs(tally: &mut [u64; 32], stock: &[u16], book: &[u8], work: &mut [u8]) {
+fn compare_runs(tally: &mut Tally, stock: &[u16], book: &[u8], work: &mut [u8]) {
     let mut list: [u8; 10080] = [0; 10080];
     compare_run(tally, stock, book, work, &mut list);
     let moves = last(book);
@@ -82,7 +77,7 @@ fn compare_runs(tally: &mut [u64; 32], stock: &[u16], book: &[u8], work: &mut [u
 }
 
 // The book of a stock, with a strip to work on.
-pub fn compare_book(tally: &mut [u64; 32], stock: &[u16], book: &[u8], work: &mut [u8]) {
+pub fn compare_book(tally: &mut Tally, stock: &[u16], book: &[u8], work: &mut [u8]) {
     let first = strip_at(book, 0, work.len());
     note(tally, tally::COUNT, count_agrees(stock, book.len() / 8));
     note(tally, tally::FIRST, first_agrees(stock, first, work));

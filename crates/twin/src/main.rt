@@ -14,16 +14,17 @@ mod tally;
 
 use books::build;
 use compare::compare_book;
+use patterns::Lists;
 use patterns::bit;
 use shelf::BYTES;
 use shelf::Book;
+use shelf::Shelf;
 use shelf::rows_of;
 use stocks::cut;
+use tally::Tally;
 ghost use Prim.Native.Nat.{_≤_};
 
-// The largest n.
-const MOST: usize = 7;
-
+// The first counts of some.
 fn front(counts: &[u16], kinds: usize) -> &[u16] {
     if kinds <= counts.len() {
         return &counts[0..kinds];
@@ -32,31 +33,25 @@ fn front(counts: &[u16], kinds: usize) -> &[u16] {
 }
 
 // A book with a strip of n blocks to work on.
-fn compare_on(tally: &mut [u64; 32], stock: &[u16], shelf: &[u8; BYTES], book: Book, n: usize)
+fn compare_on(tally: &mut Tally, stock: &[u16], shelf: &Shelf, book: Book, n: usize)
     requires { ⌜ n ≤ 8 ⌝ }
 {
     let mut work: [u8; 8] = [0; 8];
     compare_book(tally, stock, rows_of(shelf, book), &mut work[0..n]);
 }
 
-// The stock of the first counts.
-fn compare_stock(
-    lists: &[u8; 2304],
-    tally: &mut [u64; 32],
-    n: usize,
-    counts: [u16; 8],
-    kinds: usize,
-)
+// The stock of the first of eight counts.
+fn compare_stock(lists: &Lists, tally: &mut Tally, n: usize, counts: [u16; 8], kinds: usize)
     requires { ⌜ n ≤ 8 ⌝ }
 {
-    let mut shelf: [u8; BYTES] = [0; BYTES];
+    let mut shelf: Shelf = [0; BYTES];
     let stock = front(&counts, kinds);
     let book = build(lists, &mut shelf, stock);
     compare_on(tally, stock, &shelf, book, n);
 }
 
 // Every stock of n blocks: n - 1 places where the blocks are cut or not.
-fn compare_stocks(lists: &[u8; 2304], tally: &mut [u64; 32], n: usize, ways: u8)
+fn compare_stocks(lists: &Lists, tally: &mut Tally, n: usize, ways: u8)
     requires { ⌜ n ≤ 8 ⌝ }
 {
     let mut cuts: u8 = 0;
@@ -68,9 +63,10 @@ fn compare_stocks(lists: &[u8; 2304], tally: &mut [u64; 32], n: usize, ways: u8)
     }
 }
 
-fn compare_all(lists: &[u8; 2304], tally: &mut [u64; 32]) {
+// Every stock of up to 7 blocks.
+fn compare_all(lists: &Lists, tally: &mut Tally) {
     let mut places: usize = 0;
-    while places < MOST {
+    while places < 7 {
         let ways = bit(places);
         places += 1;
         compare_stocks(lists, tally, places, ways);
@@ -78,8 +74,8 @@ fn compare_all(lists: &[u8; 2304], tally: &mut [u64; 32]) {
 }
 
 fn main() {
-    let mut lists: [u8; 2304] = [0; 2304];
-    let mut tally: [u64; 32] = [0; 32];
+    let mut lists: Lists = [0; 2304];
+    let mut tally: Tally = [0; 32];
     patterns::fill(&mut lists);
     compare_all(&lists, &mut tally);
     tally::print(&tally);

@@ -4,6 +4,7 @@ use crate::rows::strip_at;
 use crate::single::is;
 use crate::tally::DISTANCE;
 use crate::tally::EARLIER;
+use crate::tally::Tally;
 use crate::tally::WHICH;
 use crate::tally::note;
 use comparing::distance::distance;
@@ -58,14 +59,7 @@ fn minus(to: usize, from: usize) -> i64 {
 }
 
 // The strips of two numbers.
-pub fn compare_pair(
-    tally: &mut [u64; 32],
-    stock: &[u16],
-    book: &[u8],
-    n: usize,
-    i: usize,
-    j: usize,
-) {
+pub fn compare_pair(tally: &mut Tally, stock: &[u16], book: &[u8], n: usize, i: usize, j: usize) {
     let first = strip_at(book, i, n);
     let second = strip_at(book, j, n);
     let order = smaller(i, j);

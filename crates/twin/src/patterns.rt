@@ -3,6 +3,9 @@
 // A word is a number: bit t is set where its letter at t, counted from 0, is K. So K put after a word of t letters is bit t, and R is no bit.
 // A list is 36 numbers: its words in order, at most 35 of them, and at 35 how many there are.
 
+// 64 lists: E(a, b) is the list a * 8 + b.
+pub type Lists = [u8; 2304];
+
 // Bit t.
 pub fn bit(t: usize) -> u8 {
     if t < 8 {
@@ -16,7 +19,7 @@ pub fn has(word: u8, t: usize) -> bool {
     word & bit(t) != 0
 }
 
-// Which list is E(a, b).
+// The list E(a, b); none where a word has more letters.
 pub fn e(a: usize, b: usize) -> usize {
     if 7 < a {
         return 64;
@@ -28,7 +31,7 @@ pub fn e(a: usize, b: usize) -> usize {
 }
 
 // The word at i of a list.
-pub fn word_at(lists: &[u8; 2304], list: usize, i: usize) -> u8 {
+pub fn word_at(lists: &Lists, list: usize, i: usize) -> u8 {
     if list < 64 {
         if i < 36 {
             return lists[list * 36 + i];
@@ -38,11 +41,11 @@ pub fn word_at(lists: &[u8; 2304], list: usize, i: usize) -> u8 {
 }
 
 // How many words a list has.
-pub fn words(lists: &[u8; 2304], list: usize) -> usize {
+pub fn words(lists: &Lists, list: usize) -> usize {
     word_at(lists, list, 35) as usize
 }
 
-fn put(lists: &mut [u8; 2304], list: usize, i: usize, number: u8) {
+fn put(lists: &mut Lists, list: usize, i: usize, number: u8) {
     if list < 64 {
         if i < 36 {
             lists[list * 36 + i] = number;
@@ -51,7 +54,7 @@ fn put(lists: &mut [u8; 2304], list: usize, i: usize, number: u8) {
 }
 
 // One word more at the end of a list.
-fn push(lists: &mut [u8; 2304], list: usize, word: u8) {
+fn push(lists: &mut Lists, list: usize, word: u8) {
     let many = words(lists, list);
     if many < 35 {
         put(lists, list, many, word);
@@ -70,7 +73,7 @@ pub fn turned(reversed: bool, many: usize, i: usize) -> usize {
 }
 
 // Puts the words of the list `from`, in order or in reverse order and each with letters put after it, at the end of a list.
-fn append(lists: &mut [u8; 2304], list: usize, from: usize, letters: u8, reversed: bool) {
+fn append(lists: &mut Lists, list: usize, from: usize, letters: u8, reversed: bool) {
     let many = words(lists, from);
     let mut i = 0;
     while i < many {
@@ -86,7 +89,7 @@ pub fn all_k(a: usize) -> u8 {
 }
 
 // E(a, b) for b from 0 to a.
-fn make(lists: &mut [u8; 2304], a: usize, b: usize) {
+fn make(lists: &mut Lists, a: usize, b: usize) {
     let list = e(a, b);
     if b == 0 {
         push(lists, list, all_k(a));
@@ -104,7 +107,7 @@ fn make(lists: &mut [u8; 2304], a: usize, b: usize) {
 }
 
 // Every list of words of up to 7 letters, shorter words first.
-pub fn fill(lists: &mut [u8; 2304]) {
+pub fn fill(lists: &mut Lists) {
     let mut list: usize = 0;
     while list < 64 {
         let a = list / 8;

@@ -8,6 +8,7 @@ use crate::rows::strip_at;
 use crate::single::directed;
 use crate::single::is;
 use crate::tally::LISTED;
+use crate::tally::Tally;
 use crate::tally::note;
 use running::run::Ran;
 use running::run::run;
@@ -57,7 +58,7 @@ pub fn run_agrees(stock: &[u16], book: &[u8], work: &mut [u8], list: &mut [u8]) 
 }
 
 // Makes a listed move, and compares the strip after it.
-fn replay_move(tally: &mut [u64; 32], book: &[u8], work: &mut [u8], list: &[u8], i: usize) {
+fn replay_move(tally: &mut Tally, book: &[u8], work: &mut [u8], list: &[u8], i: usize) {
     if i < list.len() / 2 {
         let low = list[2 * i];
         let high = list[2 * i + 1];
@@ -67,7 +68,7 @@ fn replay_move(tally: &mut [u64; 32], book: &[u8], work: &mut [u8], list: &[u8],
 }
 
 // Makes the listed moves on the first strip.
-pub fn replay(tally: &mut [u64; 32], book: &[u8], work: &mut [u8], list: &[u8]) {
+pub fn replay(tally: &mut Tally, book: &[u8], work: &mut [u8], list: &[u8]) {
     let first = strip_at(book, 0, work.len());
     copy(work, first);
     let moves = moves_of(list, book);

@@ -2,10 +2,12 @@
 //
 // A row is eight bytes: a strip, zeros, and in the last byte its directions, where bit j - 1 is set if kind j runs backward.
 
-// Room for 1 + 2 + 6 + 24 + 120 + 720 + 5040 rows, which seven kinds of one block take.
-pub const ROWS: usize = 5913;
+// Seven kinds of one block take 1 + 2 + 6 + 24 + 120 + 720 + 5040 rows.
+const ROWS: usize = 5913;
 
-pub const BYTES: usize = 47304;
+pub const BYTES: usize = 8 * ROWS;
+
+pub type Shelf = [u8; BYTES];
 
 // A book: its first row, and the row behind its last.
 pub struct Book {
@@ -13,7 +15,7 @@ pub struct Book {
     pub to: usize,
 }
 
-pub fn byte(shelf: &[u8; BYTES], row: usize, i: usize) -> u8 {
+pub fn byte(shelf: &Shelf, row: usize, i: usize) -> u8 {
     if row < ROWS {
         if i < 8 {
             return shelf[row * 8 + i];
@@ -22,7 +24,7 @@ pub fn byte(shelf: &[u8; BYTES], row: usize, i: usize) -> u8 {
     0
 }
 
-pub fn put(shelf: &mut [u8; BYTES], row: usize, i: usize, value: u8) {
+pub fn put(shelf: &mut Shelf, row: usize, i: usize, value: u8) {
     if row < ROWS {
         if i < 8 {
             shelf[row * 8 + i] = value;

@@ -2,6 +2,8 @@
 use io::print_decimal;
 use io::write_all;
 
+pub type Tally = [u64; 32];
+
 // A number for each call that is compared; how often it disagreed stands 16 further on.
 pub const COUNT: usize = 0;
 
@@ -27,7 +29,7 @@ pub const EARLIER: usize = 10;
 
 pub const DISTANCE: usize = 11;
 
-fn add_one(tally: &mut [u64; 32], i: usize) {
+fn add_one(tally: &mut Tally, i: usize) {
     if i < 32 {
         let seen = tally[i];
         if seen < 1000000000 {
@@ -37,7 +39,7 @@ fn add_one(tally: &mut [u64; 32], i: usize) {
 }
 
 // One comparison.
-pub fn note(tally: &mut [u64; 32], call: usize, agrees: bool) {
+pub fn note(tally: &mut Tally, call: usize, agrees: bool) {
     add_one(tally, call);
     if agrees {
         return;
@@ -52,7 +54,7 @@ fn said(words: &[u8], number: u64) {
     print_decimal(1, number);
 }
 
-fn line(words: &[u8], tally: &[u64; 32], call: usize) {
+fn line(words: &[u8], tally: &Tally, call: usize) {
     if call < 16 {
         said(words, tally[call]);
         said(b" compared, ", tally[call + 16]);
@@ -60,7 +62,7 @@ fn line(words: &[u8], tally: &[u64; 32], call: usize) {
     }
 }
 
-fn print_single(tally: &[u64; 32]) {
+fn print_single(tally: &Tally) {
     line(b"Count: ", tally, COUNT);
     line(b"First: ", tally, FIRST);
     line(b"Number: ", tally, NUMBER);
@@ -68,21 +70,21 @@ fn print_single(tally: &[u64; 32]) {
     line(b"Open: ", tally, OPEN);
 }
 
-fn print_moves(tally: &[u64; 32]) {
+fn print_moves(tally: &Tally) {
     line(b"Forward: ", tally, FORWARD);
     line(b"Back: ", tally, BACK);
     line(b"Run: ", tally, RUN);
     line(b"Moves that Run lists: ", tally, LISTED);
 }
 
-fn print_pairs(tally: &[u64; 32]) {
+fn print_pairs(tally: &Tally) {
     line(b"Which: ", tally, WHICH);
     line(b"Earlier: ", tally, EARLIER);
     line(b"Distance: ", tally, DISTANCE);
 }
 
 // Count is compared once a stock, and Number once a strip.
-pub fn print(tally: &[u64; 32]) {
+pub fn print(tally: &Tally) {
     said(b"Stocks: ", tally[COUNT]);
     said(b"\nStrips: ", tally[NUMBER]);
     write_all(1, b"\n");
