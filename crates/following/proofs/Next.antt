@@ -1,20 +1,20 @@
 -- Proofs. A step that was made on the way, held against the two places of a move record.
-use Prim.Native.Nat.{ℕ, _+_, _≤_}
-use mathlib.Core.Path.{_≡_, refl, sym, ap, _∙_}
+use Prim.Native.Nat.{ℕ}
+use mathlib.Core.Path.{_≡_, refl, sym, _∙_}
 use mathlib.Core.Bool.{Bool, true, false, _&&_, false≢true}
 use mathlib.Core.List.{List, [], _∷_}
 use native.Mathlib.Decide.{ℕ-discrete}
 use native.Mathlib.Omega.{arith}
 use borrow.Author.Tests.{eq-eqb, ne-eqb}
 use lib.Dec.{eqb}
-use lib.ListN.{length, getD, List·getD-eq-default}
-use Rattle.rules.specs.Stock.{total, IsStrip}
-use Rattle.rules.specs.Book.{book, placeIn, same}
+use lib.ListN.{List·getD-eq-default}
+use Rattle.rules.specs.Stock.{IsStrip}
+use Rattle.rules.specs.Book.{book, same}
 use Rattle.rules.specs.Neighbours.{places, differFrom}
 use Rattle.rules.proofs.Places.{place-below, book-size}
 use Rattle.walker.specs.declared.Walker.{Walker}
 use Rattle.walking.specs.declared.Moved.{Moved}
-use Rattle.walking.specs.Answers.{onward, beside, left, endNo}
+use Rattle.walking.specs.Answers.{onward, beside, left}
 use Rattle.walking.specs.Checked.{Checked, stepAnswer, stepStrip}
 use Rattle.walking.proofs.Onward.{none-left}
 use Rattle.walking.proofs.Stepped.{Step, step-refused, step-made}

@@ -1,7 +1,6 @@
 -- Proofs. What following a sheet comes to, by the record at the byte where it stands.
 use Prim.Native.Nat.{ℕ, suc, _+_, _-_, _≤_, _<_}
-use mathlib.Core.Path.{_≡_, refl, sym, ap, _∙_}
-use mathlib.Core.Bool.{Bool, true, false}
+use mathlib.Core.Path.{_≡_, ap, _∙_}
 use mathlib.Core.List.{List, [], _∷_}
 use native.Mathlib.Numerals.{add-one}
 use native.Mathlib.Omega.{arith}
@@ -13,7 +12,7 @@ use Rattle.rules.specs.Book.{same}
 use Rattle.rules.specs.Neighbours.{places}
 use Rattle.rules.specs.Refusals.{fine}
 use Rattle.walking.specs.Answers.{onward}
-use Rattle.following.specs.Following.{Followed, refusedAt, oneMore, ended, ifNext, choice, follow, asReadout}
+use Rattle.following.specs.Following.{refusedAt, ended, ifNext, choice, follow, asReadout}
 use Rattle.following.specs.Ends.{readoutOf}
 
 -- ---- by the first byte of what is left

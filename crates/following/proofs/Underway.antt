@@ -1,6 +1,6 @@
 -- Proofs. A reading under way: after i moves, what is left to follow from the strip and the byte where it stands comes to the whole.
 use Prim.Native.Nat.{ℕ, suc, _+_, _-_, _≤_, _<_}
-use mathlib.Core.Path.{_≡_, refl, sym, ap, _∙_}
+use mathlib.Core.Path.{_≡_, sym, ap, _∙_}
 use mathlib.Core.Bool.{Bool, true, false, _&&_}
 use mathlib.Core.List.{List, [], _∷_}
 use native.Mathlib.Omega.{arith}
@@ -13,11 +13,10 @@ use Rattle.rules.proofs.Strips.{strip-sum}
 use Rattle.walker.specs.declared.Walker.{Walker}
 use Rattle.walker.specs.Walkers.{walkerOf}
 use Rattle.walking.specs.declared.Moved.{Moved}
-use Rattle.walking.specs.Answers.{onward, beside}
+use Rattle.walking.specs.Answers.{beside}
 use Rattle.walking.specs.Checked.{Checked, stepAnswer, stepStrip}
-use Rattle.walking.proofs.Stepped.{Step}
 use Rattle.following.specs.declared.Readout.{Readout}
-use Rattle.following.specs.Following.{Followed, refusedAt, oneMore, ended, ifNext, follow, asReadout}
+use Rattle.following.specs.Following.{Followed, refusedAt, oneMore, ended, follow, asReadout}
 use Rattle.following.specs.Ends.{readoutOf, Ends}
 use Rattle.following.proofs.Steps.{at-none, at-end, at-other, at-short, at-move}
 use Rattle.following.proofs.Next.{next-yes, next-no}

@@ -1,27 +1,24 @@
 -- Proofs. A sheet of an accepted stock, a strip of it and no more moves than are left is read; and a sheet that is read is one of these.
-use Prim.Native.Nat.{ℕ, suc, _+_, _-_, _≤_, _<_}
+use Prim.Native.Nat.{ℕ, suc, _+_, _-_, _≤_}
 use mathlib.Core.Path.{_≡_, refl, sym, ap, _∙_}
 use mathlib.Core.Bool.{Bool, true, false, not}
 use mathlib.Core.List.{List, [], _∷_, _++_}
 use native.Mathlib.Decide.{ℕ-discrete}
 use native.Mathlib.Omega.{arith}
 use borrow.Author.Tests.{le-ltb, ltb-false}
-use lib.Dec.{ltb}
-use lib.ListN.{length, getD, take, drop, replicate, length-take, length-drop}
+use lib.ListN.{length, getD, take, drop, length-take, length-drop}
 use Rattle.rules.specs.Stock.{sum, IsStock, IsStrip}
-use Rattle.rules.specs.Refusals.{No, fine, when, firstOf, strangerNo, amountNo, stockNos, stripNos}
-use Rattle.rules.proofs.Refusals.{passed-first, passed-both, passed-fine}
+use Rattle.rules.specs.Refusals.{No, fine, firstOf, strangerNo, amountNo, stockNos, stripNos}
+use Rattle.rules.proofs.Refusals.{passed-first, passed-both}
 use Rattle.rules.proofs.Checks.{passed-head, when-passed, accepted-back, accepted-strip-back, length-right}
 use Rattle.rules.proofs.Strips.{strip-sum}
 use Rattle.walking.specs.Answers.{onward, left}
 use Rattle.sheets.specs.Sheets.{padded, stockRecord, stripRecord, moveRecords, sheetOf}
-use Rattle.records.specs.Records.{atByte, used, sheetStock, stripBody, sheetStrip, recordNo, paddingNo}
+use Rattle.records.specs.Records.{atByte, sheetStock, stripBody, sheetStrip, recordNo, paddingNo}
 use Rattle.records.specs.Opened.{stockAt, stripAt, openingNos}
-use Rattle.records.proofs.BodyLaws.{zeros, used-prefix, record-other, record-there}
+use Rattle.records.proofs.BodyLaws.{zeros, record-other, record-there}
 use Rattle.records.proofs.Beginning.{opening-stock, opening-strip, opening-body}
-use Rattle.following.specs.Following.{Followed}
 use Rattle.reading.specs.Reading.{followed, readNos}
-use Rattle.reading.proofs.ReadOn.{first-passed}
 use Rattle.reading.proofs.Joined.{read-rows}
 use Rattle.reading.proofs.Padding.{padded-long, used-padded, padded-used, padded-front, padded-rest, zeros-zeros, padded-split}
 use Rattle.reading.proofs.MoveRecords.{Rebuilt, rebuilt, follow-written}

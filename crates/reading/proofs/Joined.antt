@@ -3,20 +3,19 @@ use Prim.Native.Nat.{ℕ, _+_}
 use mathlib.Core.Path.{_≡_, refl, sym, ap, _∙_}
 use mathlib.Core.List.{List, [], _∷_, _++_}
 use native.Mathlib.Decide.{ℕ-discrete}
-use native.Mathlib.Omega.{arith}
 use lib.Dec.{ltb}
-use lib.ListN.{length, drop}
+use lib.ListN.{length}
 use Rattle.rules.specs.Stock.{sum}
-use Rattle.rules.specs.Refusals.{No, when, orNext, firstOf, unless, stockNos}
+use Rattle.rules.specs.Refusals.{No, when, orNext, firstOf, stockNos}
 use Rattle.rules.proofs.Strips.{strip-sum}
 use Rattle.rules.proofs.Refusals.{refused-first, passed-first, unless-refused}
 use Rattle.rules.proofs.Checks.{passed-head}
 use Rattle.stock.specs.declared.Refusal.{Refusal}
 use Rattle.records.specs.declared.opening.Opening.{Opening}
 use Rattle.records.specs.Records.{sheetStock, stripBody, sheetStrip, paddingNo}
-use Rattle.records.specs.Opened.{stockAt, stripAt, restAt, stockAtNos, stripAtNos, openingNos, heldStock, heldStrip, Opened}
+use Rattle.records.specs.Opened.{stockAt, stripAt, restAt, stockAtNos, stripAtNos, openingNos, heldStrip, Opened}
 use Rattle.records.proofs.Beginning.{opening-strip}
-use Rattle.following.specs.Following.{Followed, follow, asReadout}
+use Rattle.following.specs.Following.{asReadout}
 use Rattle.reading.specs.Reading.{followed, readNos, readAnswer, readBuffer}
 use Rattle.reading.specs.Halves.{followedAt, movesNos, movesAnswer, movesBuffer}
 use Rattle.reading.proofs.ReadOn.{first-stopped, first-passed}

@@ -1,5 +1,5 @@
 -- Proofs. The move records of a sheet and what following them comes to: the records of c moves lead c strips on, and records that are followed to the end are those.
-use Prim.Native.Nat.{ℕ, zero, suc, _+_, _-_, _≤_, _<_}
+use Prim.Native.Nat.{ℕ, zero, suc, _+_, _-_, _≤_}
 use mathlib.Core.Path.{_≡_, refl, sym, ap, _∙_}
 use mathlib.Core.Bool.{Bool, true, false}
 use mathlib.Core.List.{List, [], _∷_, _++_, append-nil, append-assoc}
@@ -10,12 +10,12 @@ use lib.ListN.{length}
 use Rattle.rules.specs.Stock.{IsStrip}
 use Rattle.rules.specs.Book.{book, placeIn, same}
 use Rattle.rules.specs.Neighbours.{places}
-use Rattle.rules.specs.Refusals.{No, fine}
+use Rattle.rules.specs.Refusals.{fine}
 use Rattle.rules.proofs.Places.{same-self, same-true}
 use Rattle.rules.proofs.Strips.{moveOf}
 use Rattle.walking.specs.Answers.{onward, beside, left}
 use Rattle.walking.specs.Checked.{found}
-use Rattle.walking.proofs.OneMove.{Makes, found-none, found-some}
+use Rattle.walking.proofs.OneMove.{found-none, found-some}
 use Rattle.walking.proofs.Onward.{none-left, onward-none, onward-strip, onward-place, onward-left}
 use Rattle.sheets.specs.Sheets.{moveRecords}
 use Rattle.following.specs.Following.{Followed, refusedAt, oneMore, ended, ifNext, follow}

@@ -6,14 +6,14 @@ use native.Mathlib.Omega.{arith}
 use borrow.Author.Tests.{lt-ltb, le-ltb}
 use lib.ListN.{length, take, drop}
 use lib.Seq.{length-take-le, take-at, length-front}
-use Rattle.rules.specs.Refusals.{No, fine, when, firstOf, unless}
+use Rattle.rules.specs.Refusals.{No, fine, firstOf}
 use Rattle.rules.proofs.Strips.{strip-sum}
 use Rattle.rules.proofs.Refusals.{unless-refused}
 use Rattle.records.specs.declared.opening.Opening.{Opening}
 use Rattle.records.specs.Opened.{heldStock, heldStrip, Ready}
 use Rattle.following.specs.declared.Readout.{Readout}
-use Rattle.following.specs.Following.{Followed, asReadout}
-use Rattle.following.specs.Ends.{Ends, readoutOf}
+use Rattle.following.specs.Following.{asReadout}
+use Rattle.following.specs.Ends.{Ends}
 use Rattle.reading.specs.Halves.{followedAt, movesNos, movesAnswer, movesBuffer}
 
 -- ---- the first of a list

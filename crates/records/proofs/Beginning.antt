@@ -1,7 +1,7 @@
 -- Proofs. The stock record and the strip record after it: which refuses, and what is read where none does.
-use Prim.Native.Nat.{ℕ, min, _+_, _-_, _≤_, _<_}
-use mathlib.Core.Path.{_≡_, refl, sym, ap, _∙_}
-use mathlib.Core.List.{List, [], _∷_, _++_, append-nil}
+use Prim.Native.Nat.{ℕ, min, _+_, _-_, _<_}
+use mathlib.Core.Path.{_≡_, ap, _∙_}
+use mathlib.Core.List.{List, _++_, append-nil}
 use native.Mathlib.Omega.{arith}
 use lib.ListN.{length, take, drop, replicate, length-take, length-drop}
 use Rattle.rules.specs.Stock.{sum, IsStock, IsStrip}
@@ -13,9 +13,9 @@ use Rattle.stock.specs.Refused.{refusal}
 use Rattle.stock.proofs.Tested.{passed, stopped-first, passed-next}
 use Rattle.records.specs.declared.opening.Opening.{Opening}
 use Rattle.records.specs.Records.{used}
-use Rattle.records.specs.Opened.{stockAt, stripAt, stockAtNos, stripAtNos, openingNos, heldStock, heldStrip, Opened, Ready}
+use Rattle.records.specs.Opened.{stockAt, stripAt, stockAtNos, stripAtNos, openingNos, Opened, Ready}
 use Rattle.records.proofs.BodyLaws.{used-fits}
-use Rattle.records.proofs.Checking.{record-fits, counts-held, stock-body, stock-accepted, strip-accepted}
+use Rattle.records.proofs.Checking.{record-fits, counts-held, stock-accepted, strip-accepted}
 
 module _ (at : ℕ) (sheet : List ℕ) (r : Refusal) (is : r ≡ refusal (firstOf (stockAtNos at sheet))) where
   pub opening-stopped : (r .no ≡ 0 → ⊥) → r ≡ refusal (firstOf (openingNos at sheet))

@@ -6,7 +6,7 @@ use mathlib.Core.List.{List, [], _∷_, _++_}
 use native.Mathlib.Numerals.{add-one}
 use native.Mathlib.Omega.{arith}
 use borrow.Author.Tests.{eq-eqb, ne-eqb, lt-ltb, le-ltb}
-use lib.ListN.{length, getD, take, drop, set, replicate, length-append, length-take, drop-of-length-le}
+use lib.ListN.{length, getD, take, drop, set, replicate, length-take, drop-of-length-le}
 use lib.Seq.{drop-cons, take-suc, length-take-le}
 use Rattle.rules.specs.Book.{same}
 use Rattle.rules.specs.Refusals.{fine}

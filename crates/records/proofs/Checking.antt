@@ -1,5 +1,5 @@
 -- Proofs. The checks of the records before the moves: which row refuses, as the code finds it.
-use Prim.Native.Nat.{ℕ, zero, suc, _+_, _-_, _≤_, _<_}
+use Prim.Native.Nat.{ℕ, zero, suc, _+_, _-_, _<_}
 use mathlib.Core.Path.{_≡_, refl, sym, ap, _∙_}
 use mathlib.Core.Bool.{Bool, true, false, not, _||_}
 use mathlib.Core.List.{List, [], _∷_, _++_}
@@ -9,12 +9,12 @@ use lib.Dec.{eqb, ltb}
 use lib.ListN.{length, getD, take, drop, length-take, length-drop}
 use lib.Seq.{take-take, take-nil, drop-drop}
 use Rattle.rules.specs.Stock.{sum, IsStock, IsStrip}
-use Rattle.rules.specs.Refusals.{No, fine, firstOf, strangerNo, amountNo, stockNos, stripNos}
+use Rattle.rules.specs.Refusals.{No, firstOf, strangerNo, amountNo, stripNos}
 use Rattle.rules.proofs.Refusals.{passed-fine, passed-both}
 use Rattle.rules.proofs.Checks.{length-right, passed-head, accepted, accepted-strip}
 use Rattle.stock.specs.declared.Refusal.{Refusal}
 use Rattle.stock.specs.Refused.{refusal}
-use Rattle.stock.proofs.Tested.{passed, stopped, stopped-first, passed-next}
+use Rattle.stock.proofs.Tested.{passed, stopped-first, passed-next}
 use Rattle.records.specs.Records.{atByte, used, recordNo}
 use Rattle.records.specs.Opened.{stockAt, stripAt, restAt, stockAtNos, stripAtNos}
 use Rattle.records.proofs.BodyLaws.{zeros, used-prefix, record-short}

@@ -17,7 +17,7 @@ use ghost.Atoms.{Atoms, sem}
 use contract.Lifetimes.{AllOutlive}
 use contract.Monad.{Fun, fact}
 use contract.Running.{givenOf, tables, tablesOf}
-use types.Kit.{Given, Item, ‵, raw, _⊛_, ⋆, some, later, _$_, _∵_, !, qed, by, move, keep, drop, use1, use2, split, join, pick, rewrite, fsplit, fjoin, feqL, suffices, frame, await, done}
+use types.Kit.{Given, ‵, raw, _⊛_, ⋆, some, later, _$_, _∵_, !, qed, by, move, keep, drop, use1, use2, split, join, pick, rewrite, fsplit, fjoin, feqL, suffices, frame, await, done}
 use types.Part.{agg, whole, sub, look-in}
 use types.Run.{look, init, store, forget, stop, hop, fld, from, load, lit, addr, and-then, no-more, assigns, land, returns, enter, alloc1, alloc0, params1, pass1, pass0, free1, free0}
 use sound.WpLaws.{FmC, fmOf, WpFn-mono}
@@ -43,7 +43,6 @@ use Rattle.records.specs.declared.opening.Opening.{Opening}
 use Rattle.records.proofs.opening.Opening as S
 use Rattle.records.proofs.opening.Opening.Laws as S′
 use Rattle.records.proofs.Beginning.{ready}
-use Rattle.reading.specs.Reading.{readAnswer, readBuffer}
 use Rattle.reading.specs.Halves.{movesAnswer, movesBuffer}
 use Rattle.following.specs.declared.Readout.{Readout}
 use Rattle.reading.specs.declared.reader.Reader.{Reader}

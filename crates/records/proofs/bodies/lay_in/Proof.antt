@@ -1,8 +1,8 @@
 -- `records::bodies::lay_in` meets its contract. The invariant: so many blocks are laid.
 use Prim.Native.Nat.{_≤_, _-_}
-use mathlib.Core.Path.{_≡_, refl, sym, ap, _∙_}
+use mathlib.Core.Path.{_≡_, refl, _∙_}
 use native.Mathlib.Omega.{arith}
-use lib.ListN.{length, drop, length-set}
+use lib.ListN.{length, length-set}
 use lib.Seq.{take-length}
 use Rattle.records.proofs.BodyLaws.{laid, laid-on}
 use Rattle.records.proofs.bodies.lay_in.Statement.{statement}

@@ -6,7 +6,7 @@ use borrow.Author.Needs.{needs}
 use lib.ListN.{length}
 use Rattle.rules.specs.Refusals.{firstOf}
 use Rattle.stock.proofs.Tested.{passed}
-use Rattle.records.specs.Opened.{stockAt, stockAtNos}
+use Rattle.records.specs.Opened.{stockAtNos}
 use Rattle.records.proofs.BodyLaws.{used-fits, used-long}
 use Rattle.records.proofs.Checking.{counts-held, stock-body, stock-accepted}
 use Rattle.records.proofs.Beginning.{opening-stopped, opening-next}

@@ -1,6 +1,5 @@
 -- `records::opening::opening_at` meets its contract: the checks, then what is read.
 use Prim.Native.Nat.{_+_, _<_}
-use mathlib.Core.Path.{_≡_}
 use native.Mathlib.Omega.{arith}
 use borrow.Author.Needs.{needs}
 use lib.ListN.{length}
