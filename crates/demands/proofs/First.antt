@@ -1,7 +1,9 @@
 -- Demand 1, call by call: whatever the input, the call answers the first row of its list that is met, and a refusal leaves everything lent as it was.
 -- That each call takes any input and comes back is what its own proof says: no call has a `requires`.
-use mathlib.Core.Path.{_≡_, ap}
-use mathlib.Core.Bool.{true, false}
+use Prim.Native.Nat.{ℕ}
+use mathlib.Core.Path.{_≡_, ap, _∙_}
+use mathlib.Core.Bool.{Bool, true, false}
+use mathlib.Core.List.{List}
 use lib.IntN.{pos}
 use contract.Lifetimes.{Lfts}
 use borrow.Fn.Kinds.{Dens, endedOf}
@@ -34,6 +36,7 @@ use Rattle.comparing.proofs.earlier.earlier.Reads as earlier-reads
 use Rattle.comparing.proofs.distance.distance.Kinds as distance
 use Rattle.comparing.proofs.distance.distance.Reads as distance-reads
 use Rattle.walker.specs.declared.open.Opened.{Opened}
+use Rattle.walker.specs.declared.Walker.{Walker}
 use Rattle.walker.specs.Walkers.{allForward}
 use Rattle.walker.specs.Answers.{openAnswer}
 use Rattle.walker.proofs.Theorems.{refused-forward}
@@ -46,6 +49,7 @@ use Rattle.walking.proofs.forward.forward.Kinds as forward
 use Rattle.walking.proofs.forward.forward.Reads as forward-reads
 use Rattle.walking.proofs.back.back.Kinds as back
 use Rattle.walking.proofs.back.back.Reads as back-reads
+use Rattle.exports.proofs.Theorems.{Allowed, drive-right}
 use Rattle.running.specs.declared.run.Ran.{Ran}
 use Rattle.running.specs.Answers.{runNos, runAnswer}
 use Rattle.running.proofs.Theorems.{run-right}
@@ -131,6 +135,16 @@ pub back-refuses : (κs : Lfts 2) (a : Dens κs back.ps) (r : Moved) (s : AtExit
     → Refuses (moveNos true (a .0 .now) (a .1 .0 .now) (a .1 .1 .0)) (r .refusal) ((r .low ≡ 0) × (r .high ≡ 0) × (r .walker ≡ a .1 .1 .0) × (s .1 .0 .now ≡ a .1 .0 .now))
 unfolding moveAnswer
 back-refuses κs a r s h = record { named = ap (λ (r : Moved). r .refusal) (h .0); left = back-right κs a r s h .refused }
+
+-- ---- the press driver's form: as Forward (at false) and Back (at true), and what it leaves in the lent walker is the one lent
+
+pub drive-refuses : (d : Bool) (counts s : List ℕ) (w : Walker) (r : Moved) (t : List ℕ) (v : Walker) → Allowed d counts s w r t v
+    → Refuses (moveNos d counts s w) (r .refusal) ((r .low ≡ 0) × (r .high ≡ 0) × (r .walker ≡ w) × (t ≡ s) × (v ≡ w))
+unfolding moveAnswer
+drive-refuses d counts s w r t v h = record {
+  named = ap (λ (r : Moved). r .refusal) (h .0);
+  left = λ e. let m = drive-right d counts s w r t v h .0 .refused e in (m .0, m .1, m .2, m .3, h .2 ∙ m .2);
+}
 
 -- ---- Run: 1 to 6, 10. Strip and list stay, and the walker is the one lent
 
