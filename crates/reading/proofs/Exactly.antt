@@ -14,13 +14,14 @@ use Rattle.rules.proofs.Checks.{passed-head, when-passed, accepted-back, accept
 use Rattle.rules.proofs.Strips.{strip-sum}
 use Rattle.walking.specs.Answers.{onward, left}
 use Rattle.sheets.specs.Sheets.{padded, stockRecord, stripRecord, moveRecords, sheetOf}
+use Rattle.sheets.proofs.Bodies.{padded-long}
 use Rattle.records.specs.Records.{atByte, sheetStock, stripBody, sheetStrip, recordNo, paddingNo}
 use Rattle.records.specs.Opened.{stockAt, stripAt, openingNos}
 use Rattle.records.proofs.BodyLaws.{zeros, record-other, record-there}
 use Rattle.records.proofs.Beginning.{opening-stock, opening-strip, opening-body}
 use Rattle.reading.specs.Reading.{followed, readNos}
 use Rattle.reading.proofs.Joined.{read-rows}
-use Rattle.reading.proofs.Padding.{padded-long, used-padded, padded-used, padded-front, padded-rest, zeros-zeros, padded-split}
+use Rattle.reading.proofs.Padding.{used-padded, padded-used, padded-front, padded-rest, zeros-zeros, padded-split}
 use Rattle.reading.proofs.MoveRecords.{Rebuilt, rebuilt, follow-written}
 use Rattle.reading.proofs.Shape.{shaped, long-enough, first-body, second-kind, second-body, left-over, reshaped}
 

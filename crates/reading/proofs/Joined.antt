@@ -8,7 +8,7 @@ use lib.ListN.{length}
 use Rattle.rules.specs.Stock.{sum}
 use Rattle.rules.specs.Refusals.{No, when, orNext, firstOf, stockNos}
 use Rattle.rules.proofs.Strips.{strip-sum}
-use Rattle.rules.proofs.Refusals.{refused-first, passed-first, unless-refused}
+use Rattle.rules.proofs.Refusals.{first-stopped, first-passed, refused-first, passed-first, unless-refused}
 use Rattle.rules.proofs.Checks.{passed-head}
 use Rattle.stock.specs.declared.Refusal.{Refusal}
 use Rattle.records.specs.declared.opening.Opening.{Opening}
@@ -18,7 +18,6 @@ use Rattle.records.proofs.Beginning.{opening-strip}
 use Rattle.following.specs.Following.{asReadout}
 use Rattle.reading.specs.Reading.{followed, readNos, readAnswer, readBuffer}
 use Rattle.reading.specs.Halves.{followedAt, movesNos, movesAnswer, movesBuffer}
-use Rattle.reading.proofs.ReadOn.{first-stopped, first-passed}
 
 -- reading's refusals: 4, those of the records before the moves, and that of the moves and the end
 pub read-rows : (sheet buffer : List ℕ) → readNos sheet buffer ≡ when 4 (ltb (length buffer) 64) ∷ (openingNos 0 sheet ++ (followed sheet .no ∷ []))

@@ -4,16 +4,12 @@ use mathlib.Core.Path.{_≡_, refl, ap, _∙_}
 use mathlib.Core.Bool.{true}
 use mathlib.Core.List.{List, [], _∷_, _++_}
 use native.Mathlib.Omega.{arith}
-use lib.ListN.{length, getD, take, drop, replicate, length-append, length-replicate, length-take, length-drop, take-append-drop}
+use lib.ListN.{length, getD, take, drop, replicate, length-replicate, length-take, length-drop, take-append-drop}
 use lib.Seq.{take-at, drop-at}
 use Rattle.rules.proofs.Places.{same-self, same-true}
 use Rattle.records.specs.Records.{untilLast, used}
 use Rattle.records.proofs.BodyLaws.{zeros}
 use Rattle.sheets.specs.Sheets.{padded}
-
-pub padded-long : (n : ℕ) (l : List ℕ) → length l ≤ n → length (padded n l) ≡ n
-unfolding padded
-padded-long n l h = length-append l (replicate (n - length l) 0) ∙ rw (length-replicate {A = ℕ} (n - length l) 0) (omega arith)
 
 -- ---- counts
 

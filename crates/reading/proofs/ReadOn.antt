@@ -1,6 +1,6 @@
 -- Proofs. Reading on from what is read before the moves: by 4, by the refusal before, by the moves and the end.
-use Prim.Native.Nat.{ℕ, zero, suc, _≤_, _<_}
-use mathlib.Core.Path.{_≡_, refl, sym, ap, _∙_}
+use Prim.Native.Nat.{ℕ, _≤_, _<_}
+use mathlib.Core.Path.{_≡_, sym, ap, _∙_}
 use mathlib.Core.List.{List, [], _∷_, _++_}
 use native.Mathlib.Omega.{arith}
 use borrow.Author.Tests.{lt-ltb, le-ltb}
@@ -8,25 +8,13 @@ use lib.ListN.{length, take, drop}
 use lib.Seq.{length-take-le, take-at, length-front}
 use Rattle.rules.specs.Refusals.{No, fine, firstOf}
 use Rattle.rules.proofs.Strips.{strip-sum}
-use Rattle.rules.proofs.Refusals.{unless-refused}
+use Rattle.rules.proofs.Refusals.{first-stopped, first-passed, unless-refused}
 use Rattle.records.specs.declared.opening.Opening.{Opening}
 use Rattle.records.specs.Opened.{heldStock, heldStrip, Ready}
 use Rattle.following.specs.declared.Readout.{Readout}
 use Rattle.following.specs.Following.{asReadout}
 use Rattle.following.specs.Ends.{Ends}
 use Rattle.reading.specs.Halves.{followedAt, movesNos, movesAnswer, movesBuffer}
-
--- ---- the first of a list
-
-pub first-stopped : (x : No) (xs : List No) → (x .0 ≡ 0 → ⊥) → firstOf (x ∷ xs) ≡ x
-unfolding firstOf
-first-stopped (zero, p) xs h = absurd (h refl)
-first-stopped (suc n, p) xs h = refl
-
-pub first-passed : (x : No) (xs : List No) → x .0 ≡ 0 → firstOf (x ∷ xs) ≡ firstOf xs
-unfolding firstOf
-first-passed (zero, p) xs h = refl
-first-passed (suc n, p) xs h = absurd (omega arith)
 
 -- ---- what is answered
 

@@ -1,5 +1,5 @@
 -- Proofs. The checks of the records before the moves: which row refuses, as the code finds it.
-use Prim.Native.Nat.{ℕ, zero, suc, _+_, _-_, _<_}
+use Prim.Native.Nat.{ℕ, suc, _+_, _-_, _<_}
 use mathlib.Core.Path.{_≡_, refl, sym, ap, _∙_}
 use mathlib.Core.Bool.{Bool, true, false, not, _||_}
 use mathlib.Core.List.{List, [], _∷_, _++_}
@@ -7,9 +7,10 @@ use native.Mathlib.Decide.{decLt}
 use native.Mathlib.Omega.{arith}
 use lib.Dec.{eqb, ltb}
 use lib.ListN.{length, getD, take, drop, length-take, length-drop}
-use lib.Seq.{take-take, take-nil, drop-drop}
+use lib.Seq.{take-take, drop-drop}
 use Rattle.rules.specs.Stock.{sum, IsStock, IsStrip}
 use Rattle.rules.specs.Refusals.{No, firstOf, strangerNo, amountNo, stripNos}
+use Rattle.rules.proofs.Last.{drop-take}
 use Rattle.rules.proofs.Refusals.{passed-fine, passed-both}
 use Rattle.rules.proofs.Checks.{length-right, passed-head, accepted, accepted-strip}
 use Rattle.stock.specs.declared.Refusal.{Refusal}
@@ -69,18 +70,6 @@ module _ (at : ℕ) (sheet : List ℕ) where
   stock-accepted h = accepted (stockAt at sheet) (passed-head _ _ h .1)
 
 -- ---- the strip record
-
-drop-take : (m n : ℕ) (l : List ℕ) → drop m (take n l) ≡ take (n - m) (drop m l)
-drop-take zero n l =
-    let e : n - 0 ≡ n = omega arith in
-    rw e
-drop-take (suc m) zero l =
-    let e : 0 - suc m ≡ 0 = omega arith in
-    rw e
-drop-take (suc m) (suc n) [] = sym (take-nil (suc n - suc m))
-drop-take (suc m) (suc n) (x ∷ l) =
-    let e : suc n - suc m ≡ n - m = omega arith in
-    rw e (drop-take m n l)
 
 module _ (counts : List ℕ) (k : IsStock counts) (at : ℕ) (sheet : List ℕ) (fits : at + 64 < length sheet) where
   -- the parts of the sheet that the code lends

@@ -1,17 +1,17 @@
 -- Proofs. Finding the move: from the last kind down, a kind that cannot move stands whole in front of the kinds below it or behind them, so what is left without
 -- it is a part of the strip itself.
-use Prim.Native.Nat.{ℕ, zero, suc, _+_, _-_, _≤_, _<_}
+use Prim.Native.Nat.{ℕ, suc, _+_, _-_, _≤_, _<_}
 use mathlib.Core.Path.{_≡_, refl, sym, ap, _∙_}
 use mathlib.Core.Bool.{Bool, true, false}
 use mathlib.Core.Option.{Option, none, some}
-use mathlib.Core.List.{List, [], _∷_, _++_, reverse}
+use mathlib.Core.List.{List, _++_, reverse}
 use native.Mathlib.Omega.{arith}
 use lib.ListN.{length, getD, take, drop, replicate, length-replicate, length-take, length-drop}
-use lib.Seq.{take-nil, take-all, take-take, take-at, drop-at, drop-drop}
+use lib.Seq.{take-all, take-take, take-at, drop-at, drop-drop}
 use Rattle.rules.specs.Stock.{sum, IsStrip}
 use Rattle.rules.specs.Book.{Word, reduced, backward}
 use Rattle.rules.proofs.Listed.{flip}
-use Rattle.rules.proofs.Last.{reverse-take}
+use Rattle.rules.proofs.Last.{reverse-take, drop-take}
 use Rattle.rules.proofs.Turned.{sum-next, turned-length}
 use Rattle.rules.proofs.Patterns.{IsWord, E-is-first, E-is-last}
 use Rattle.rules.proofs.Moves.{moveE, ResultE, E-move}
@@ -66,18 +66,6 @@ raised-back n lo c none = refl
 raised-back n lo c (some m) =
     let k : n + suc (m .skip) ≡ suc n + m .skip = omega arith in
     rw k
-
-drop-take : (c n : ℕ) (l : List ℕ) → drop c (take n l) ≡ take (n - c) (drop c l)
-drop-take zero n l =
-    let e : n - 0 ≡ n = omega arith in
-    rw e
-drop-take (suc c) zero l =
-    let e : 0 - suc c ≡ 0 = omega arith in
-    rw e
-drop-take (suc c) (suc n) [] = sym (take-nil (suc n - suc c))
-drop-take (suc c) (suc n) (x ∷ l) =
-    let e : suc n - suc c ≡ n - c = omega arith in
-    rw e (drop-take c n l)
 
 module _ (d : Bool) (counts s : List ℕ) (h : IsStrip counts s) where
   pub start : Descent d counts s (length counts) 0 (length s)
