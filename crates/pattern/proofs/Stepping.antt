@@ -1,7 +1,7 @@
 -- Proofs. What `next` and `prev` answer for a word of blocks, by its end: one law for each branch of their code. `s` is the answer for the shorter word.
 use Prim.Native.Nat.{ℕ, _-_, _<_}
 use mathlib.Core.Path.{_≡_, sym, ap, _∙_}
-use mathlib.Core.Bool.{Bool, true, false}
+use mathlib.Core.Bool.{true, false}
 use mathlib.Core.Option.{Option, none, some}
 use mathlib.Core.List.{List}
 use lib.ListN.{length, getD, take}
@@ -10,10 +10,7 @@ use Rattle.rules.proofs.Books.{pattern}
 use Rattle.rules.proofs.Index.{rests}
 use Rattle.rules.proofs.Endings.{Both, gate-open, move-no-rest, rest-KR, move-K, move-KR, move-RR}
 use Rattle.pattern.specs.declared.moves.Step.{Step}
-use Rattle.pattern.specs.Steps.{step, orPlaces}
-
-abbrev pub stepOf : Bool → ℕ → List ℕ → Step
-stepOf d j w = step (moveE d (pattern j w))
+use Rattle.pattern.specs.Steps.{step, stepOf, orPlaces}
 
 -- the move of the shorter word, or else the one at the seam, if there is one
 seam-at : (o m : Option (ℕ × ℕ)) (p q : ℕ) {s : Step} {low high : ℕ} → m ≡ orElse o (some (p, q)) → low ≡ p → high ≡ q → s ≡ step o → orPlaces s low high ≡ step m

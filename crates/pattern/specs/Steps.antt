@@ -1,7 +1,10 @@
--- TO BE BELIEVED. What `next` and `prev` answer.
+-- What a finder of moves answers. No open call's contract cites it, so nothing here is to be believed.
 use Prim.Native.Nat.{ℕ}
 use mathlib.Core.Bool.{Bool, true, false}
 use mathlib.Core.Option.{Option, none, some}
+use mathlib.Core.List.{List}
+use Rattle.rules.proofs.Moves.{moveE}
+use Rattle.rules.proofs.Books.{pattern}
 use Rattle.pattern.specs.declared.moves.Step.{Step}
 
 -- the two places to exchange, from 0, smaller first; where there is no move, both are 0
@@ -9,7 +12,11 @@ abbrev pub step : Option (ℕ × ℕ) → Step
 step none = record { found = false; low = 0; high = 0 }
 step (some pq) = record { found = true; low = pq .0; high = pq .1 }
 
--- ---- of a part of their code: nobody needs to believe it
+-- the move on, or at true back, in the list of kind j's patterns, from that of a word of blocks: what every finder promises
+abbrev pub stepOf : Bool → ℕ → List ℕ → Step
+stepOf back j w = step (moveE back (pattern j w))
+
+-- ---- of a part of the code
 
 abbrev pub pickStep : Bool → Step → Step → Step
 pickStep true s t = s

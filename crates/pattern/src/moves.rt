@@ -3,10 +3,8 @@ ghost use Prim.Native.Nat.{_≤_};
 ghost use mathlib.Core.Path.{_≡_};
 ghost use mathlib.Core.Bool.{true, false};
 ghost use lib.ListN.{length};
-ghost use Rattle.rules.proofs.Books.{pattern};
 ghost use Rattle.rules.proofs.Index.{rests};
-ghost use Rattle.rules.proofs.Moves.{moveE};
-ghost use Rattle.pattern.specs.Steps.{step, orPlaces};
+ghost use Rattle.pattern.specs.Steps.{stepOf, orPlaces};
 
 // Two places to exchange, from 0, smaller first. Not found: both 0.
 #[repr(C)]
@@ -40,7 +38,7 @@ fn or_else(step: Step, low: usize, high: usize) -> Step
 // reversed part, moving on is moving back in the shorter word. One pass over the word, at most 64 deep.
 pub fn next(word: &[u8], kind: u8, others: usize) -> Step
     requires { ⌜ (length (now word) ≤ 64) × (others ≡ rests kind (now word)) ⌝ }
-    ensures { λ r. ⌜ r ≡ step (moveE false (pattern kind (now (word .entry)))) ⌝ }
+    ensures { λ r. ⌜ r ≡ stepOf false kind (now (word .entry)) ⌝ }
 {
     let a = word.len();
     if others == 0 {
@@ -69,7 +67,7 @@ pub fn next(word: &[u8], kind: u8, others: usize) -> Step
 // Moving back: by the same three parts, from the last to the first.
 pub fn prev(word: &[u8], kind: u8, others: usize) -> Step
     requires { ⌜ (length (now word) ≤ 64) × (others ≡ rests kind (now word)) ⌝ }
-    ensures { λ r. ⌜ r ≡ step (moveE true (pattern kind (now (word .entry)))) ⌝ }
+    ensures { λ r. ⌜ r ≡ stepOf true kind (now (word .entry)) ⌝ }
 {
     let a = word.len();
     if others == 0 {

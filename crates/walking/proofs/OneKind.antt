@@ -8,14 +8,12 @@ use native.Mathlib.Omega.{arith}
 use borrow.Author.Tests.{le-leb}
 use lib.ListN.{length, getD, take, drop}
 use Rattle.rules.specs.Book.{backward}
-use Rattle.rules.proofs.Listed.{flip}
-use Rattle.rules.proofs.Moves.{moveE}
-use Rattle.rules.proofs.Books.{pattern}
+use Rattle.rules.proofs.Listed.{flip, differs}
 use Rattle.rules.proofs.Strips.{moveOf}
 use Rattle.rules.proofs.Index.{rests}
 use Rattle.rules.proofs.Descent.{Descent, move-inside, others, fits, short, found as kind-moves, past-front, past-back}
 use Rattle.pattern.specs.declared.moves.Step.{Step}
-use Rattle.pattern.specs.Steps.{step}
+use Rattle.pattern.specs.Steps.{step, stepOf}
 use Rattle.walker.specs.declared.Walker.{Walker}
 use Rattle.walker.proofs.ByKind.{walker-to, to-at}
 use Rattle.walking.specs.Checked.{Checked, found}
@@ -35,12 +33,6 @@ direction-at counts s w v i l =
     let few = v .stock .few in
     rw (v .walker, walker-to counts s) (rw (le-leb (suc i) (length counts) l) at (to-at counts s (length counts) i (omega arith)))
 
-differs : (b d : Bool) → not (Bool·beq b d) ≡ flip b d
-differs false false = refl
-differs false true = refl
-differs true false = refl
-differs true true = refl
-
 -- the direction in which kind j's patterns run, as the code finds it
 abbrev pub heading : Bool → Walker → ℕ → Bool
 heading back w i = not (Bool·beq (getD (w .back) i false) back)
@@ -50,10 +42,10 @@ pub record Turn (back : Bool) (counts s : List ℕ) (f : Bool) (j i lo hi : ℕ)
   pub fits : lo + getD counts i 0 ≤ hi
   pub short : length (take (hi - lo) (drop lo s)) ≤ 64
   pub others : hi - lo - getD counts i 0 ≡ rests j (take (hi - lo) (drop lo s))
-  pub moves : (m : Step) → m ≡ step (moveE f (pattern j (take (hi - lo) (drop lo s)))) → m .found ≡ true
+  pub moves : (m : Step) → m ≡ stepOf f j (take (hi - lo) (drop lo s)) → m .found ≡ true
       → (lo + m .low < length s) × (lo + m .high < length s) × (record { kind = j; low = lo + m .low; high = lo + m .high } ≡ found (length counts) (moveOf back counts s))
-  pub past-front : (m : Step) → m ≡ step (moveE f (pattern j (take (hi - lo) (drop lo s)))) → m .found ≡ false → f ≡ false → Descent back counts s i (lo + getD counts i 0) hi
-  pub past-back : (m : Step) → m ≡ step (moveE f (pattern j (take (hi - lo) (drop lo s)))) → m .found ≡ false → f ≡ true → Descent back counts s i lo (hi - getD counts i 0)
+  pub past-front : (m : Step) → m ≡ stepOf f j (take (hi - lo) (drop lo s)) → m .found ≡ false → f ≡ false → Descent back counts s i (lo + getD counts i 0) hi
+  pub past-back : (m : Step) → m ≡ stepOf f j (take (hi - lo) (drop lo s)) → m .found ≡ false → f ≡ true → Descent back counts s i lo (hi - getD counts i 0)
 
 pub turn : (back : Bool) (counts s : List ℕ) (w : Walker) → Checked counts s w → (j lo hi : ℕ) → 0 < j → Descent back counts s j lo hi
     → Turn back counts s (heading back w (j - 1)) j (j - 1) lo hi

@@ -6,11 +6,9 @@ use walker::Walker;
 ghost use Prim.Native.Nat.{_≤_};
 ghost use mathlib.Core.Path.{_≡_};
 ghost use lib.ListN.{length};
-ghost use Rattle.rules.proofs.Books.{pattern};
 ghost use Rattle.rules.proofs.Index.{rests};
-ghost use Rattle.rules.proofs.Moves.{moveE};
 ghost use Rattle.rules.proofs.Strips.{moveOf};
-ghost use Rattle.pattern.specs.Steps.{step};
+ghost use Rattle.pattern.specs.Steps.{stepOf};
 ghost use Rattle.walking.specs.Checked.{Checked, found};
 
 // The kind that moves, and the two places from 0, smaller first. No move: kind 0.
@@ -23,7 +21,7 @@ pub struct Found {
 // One kind's own move, on or back in the list of its patterns.
 fn step_to(word: &[u8], kind: u8, others: usize, heading: bool) -> Step
     requires { ⌜ (length (now word) ≤ 64) × (others ≡ rests kind (now word)) ⌝ }
-    ensures { λ r. ⌜ r ≡ step (moveE heading (pattern kind (now (word .entry)))) ⌝ }
+    ensures { λ r. ⌜ r ≡ stepOf heading kind (now (word .entry)) ⌝ }
 {
     if heading {
         return prev(word, kind, others);
