@@ -1,5 +1,7 @@
-/* Measures the library against plain C that does the same on the same input in the same run, and prints how many times
- * as long it takes. It also holds what the two give against each other, and stops where they differ. */
+/* Measures the library against plain C that does the same on the same input in the same run, and prints times and how
+ * many times as long the library takes. It also holds what they give against each other, and stops where they differ.
+ *
+ *     bench [MILLIONS]    at most so many millions of moves of a stock; without it, as many as the table says */
 #include <stdio.h>
 #include <stdlib.h>
 #include <string.h>
@@ -8,17 +10,25 @@
 #include "nelfrupi.h"
 #include "plain.h"
 
-enum { MOVES = 50000, FORWARDS = 2000, STRIPS = 64, TIMES = 20, ROUNDS = 5 };
+enum { ROOM = 50000, STRIPS = 64, TIMES = 20, ROUNDS = 5, WAYS = 4, STOCKS = 4 };
 
 typedef struct {
     const char *title;
     size_t kinds, n;
     uint16_t stock[16];
-    bool numbered; /* whether the book has fewer than 2^64 strips */
-    uint8_t strips[STRIPS][64], strip[64], list[2 * MOVES];
+    uint64_t moves; /* how many are made, from the first strip */
+    bool numbered;  /* whether the book has fewer than 2^64 strips */
+    uint8_t first[64], strips[STRIPS][64];
     uint64_t numbers[STRIPS];
-    nelfrupi_walker walker;
+    nelfrupi_walker walkers[STRIPS];
 } work;
+
+/* One way through the strips of a stock: where it stands, and the processor's time that it took. */
+typedef struct {
+    uint8_t strip[64], list[2 * ROOM];
+    nelfrupi_walker walker;
+    double took;
+} way;
 
 static void must(bool so, const char *what)
 {
@@ -28,152 +38,204 @@ static void must(bool so, const char *what)
     }
 }
 
-/* ---- what is measured, each from the first strip, or over all strips TIMES times */
+/* ---- so many moves on, as many as the list has room for at most */
 
-static void by_run(work *w)
+typedef void moving(const work *w, way *v, size_t moves);
+
+static void by_run(const work *w, way *v, size_t moves)
 {
-    must(nelfrupi_run(w->stock, w->kinds, w->strip, w->n, w->walker, w->list, 2 * MOVES).moves == MOVES, "Run stops");
+    nelfrupi_ran ran = nelfrupi_run(w->stock, w->kinds, v->strip, w->n, v->walker, v->list, 2 * moves);
+    must(ran.refusal.no == 0 && ran.moves == moves, "Run stops");
+    v->walker = ran.walker;
 }
 
-static void by_forward(work *w)
+static void by_left_rule(const work *w, way *v, size_t moves)
 {
-    nelfrupi_walker walker = w->walker;
-    for (int i = 0; i < FORWARDS; i++) {
-        nelfrupi_moved moved = nelfrupi_forward(w->stock, w->kinds, w->strip, w->n, walker);
-        must(moved.refusal.no == 0, "Forward refuses");
-        walker = moved.walker;
+    must(run_by_left(w->stock, w->kinds, v->strip, w->n, v->walker.back, v->list, moves) == moves, "the book ends");
+}
+
+static void by_rule(const work *w, way *v, size_t moves)
+{
+    must(run_by_recursion(w->stock, w->kinds, v->strip, w->n, v->walker.back, v->list, moves) == moves, "the book ends");
+}
+
+static void by_dictionary(const work *w, way *v, size_t moves)
+{
+    for (size_t i = 0; i < moves; i++) {
+        must(dictionary_next(v->strip, w->n), "the dictionary ends");
     }
 }
 
-static void by_book(work *w)
-{
-    nelfrupi_walker walker = w->walker;
-    for (int i = 0; i < MOVES; i++) {
-        must(book_next(w->stock, w->kinds, w->strip, w->n, walker.back), "the book ends");
-    }
-}
+/* ---- calls, over all strips TIMES times */
 
-static void by_dictionary(work *w)
-{
-    for (int i = 0; i < MOVES; i++) {
-        must(dictionary_next(w->strip, w->n), "the dictionary ends");
-    }
-}
-
-static void by_number(work *w)
+static void numbers(work *w)
 {
     for (int i = 0; i < TIMES * STRIPS; i++) {
         w->numbers[i % STRIPS] = nelfrupi_number(w->stock, w->kinds, w->strips[i % STRIPS], w->n).number;
     }
 }
 
-static void by_plain_number(work *w)
+static void plain_numbers(work *w)
 {
     for (int i = 0; i < TIMES * STRIPS; i++) {
         w->numbers[i % STRIPS] = book_number(w->stock, w->kinds, w->strips[i % STRIPS], w->n);
     }
 }
 
-static void by_strip(work *w)
+static void strips(work *w)
 {
     for (int i = 0; i < TIMES * STRIPS; i++) {
         nelfrupi_strip(w->stock, w->kinds, w->numbers[i % STRIPS], w->strips[i % STRIPS], w->n);
     }
 }
 
-static void by_plain_strip(work *w)
+static void plain_strips(work *w)
 {
     for (int i = 0; i < TIMES * STRIPS; i++) {
         book_strip(w->stock, w->kinds, w->numbers[i % STRIPS], w->strips[i % STRIPS], w->n);
     }
 }
 
-/* The processor's time for one of so many turns, the least of several rounds, each from the first strip. */
-static double least(void (*turns)(work *), work *w, int count)
+static void opens(work *w)
+{
+    for (int i = 0; i < TIMES * STRIPS; i++) {
+        w->walkers[i % STRIPS] = nelfrupi_open(w->stock, w->kinds, w->strips[i % STRIPS], w->n).walker;
+    }
+}
+
+static void forwards(work *w)
+{
+    uint8_t strip[64];
+    nelfrupi_walker walker = {{false}};
+    memcpy(strip, w->first, w->n);
+    for (int i = 0; i < TIMES * STRIPS; i++) {
+        nelfrupi_moved moved = nelfrupi_forward(w->stock, w->kinds, strip, w->n, walker);
+        must(moved.refusal.no == 0, "Forward refuses");
+        walker = moved.walker;
+    }
+}
+
+/* The processor's time, in nanoseconds. */
+static double now(void)
+{
+    return (double)clock() * (1e9 / CLOCKS_PER_SEC);
+}
+
+/* Of one call, the least of several rounds. */
+static double least(void (*calls)(work *), work *w)
 {
     double best = 0;
     for (int round = 0; round < ROUNDS; round++) {
-        memcpy(w->strip, w->strips[0], w->n);
-        clock_t began = clock();
-        turns(w);
-        double took = (double)(clock() - began) / count;
+        double began = now();
+        calls(w);
+        double took = (now() - began) / (TIMES * STRIPS);
         best = round == 0 || took < best ? took : best;
     }
     return best;
 }
 
-/* ---- the input, and the table */
+/* ---- the input, and the tables */
 
-/* Strips in no order, the same in each run: shuffled by a generator of fixed constants. */
-static void shuffle(work *w)
+/* The first strip, and strips in no order, the same in each run: shuffled by a generator of fixed constants. */
+static void prepare(work *w)
 {
     static uint64_t state = 1;
-    w->n = 0;
     for (size_t j = 0; j < w->kinds; j++) {
-        memset(w->strip + w->n, (int)(j + 1), w->stock[j]);
         w->n += w->stock[j];
     }
+    must(nelfrupi_first(w->stock, w->kinds, w->first, w->n).no == 0, "First refuses");
+    w->numbered = nelfrupi_count(w->stock, w->kinds).refusal.no == 0;
     for (size_t i = 0; i < STRIPS; i++) {
-        memcpy(w->strips[i], w->strip, w->n);
+        memcpy(w->strips[i], w->first, w->n);
         for (size_t k = w->n - 1; k > 0; k--) {
             state = state * 6364136223846793005u + 1442695040888963407u;
             exchange(w->strips[i], k, (state >> 33) % (k + 1));
         }
     }
-    w->walker = nelfrupi_open(w->stock, w->kinds, w->strips[0], w->n).walker;
-    w->numbered = nelfrupi_count(w->stock, w->kinds).refusal.no == 0;
 }
 
-static void print_moves(work *w)
+/* All ways go on together, one list of moves each in turn, so that what else the machine does falls on all of them. The
+ * first three must come to the same places and the same strip. */
+static double print_moves(const work *w)
 {
-    uint8_t ended[64];
-    double run = least(by_run, w, MOVES);
-    memcpy(ended, w->strip, w->n);
-    double book = least(by_book, w, MOVES);
-    must(memcmp(ended, w->strip, w->n) == 0, "Run and plain C come to different strips");
-    double dictionary = least(by_dictionary, w, MOVES), forward = least(by_forward, w, FORWARDS);
-    printf("%-12s%8.1f%12.1f%8.1f%12.1f", w->title, run / book, run / dictionary, forward / book, forward / dictionary);
-}
-
-static void print_numbers(work *w)
-{
-    uint64_t numbers[STRIPS];
-    uint8_t strips[STRIPS][64];
-    memcpy(strips, w->strips, sizeof strips);
-    double number = least(by_number, w, TIMES * STRIPS);
-    memcpy(numbers, w->numbers, sizeof numbers);
-    double plain_number = least(by_plain_number, w, TIMES * STRIPS);
-    must(memcmp(numbers, w->numbers, sizeof numbers) == 0, "Number and plain C give different numbers");
-    double strip = least(by_strip, w, TIMES * STRIPS);
-    must(memcmp(strips, w->strips, sizeof strips) == 0, "Strip gives another strip");
-    double plain_strip = least(by_plain_strip, w, TIMES * STRIPS);
-    must(memcmp(strips, w->strips, sizeof strips) == 0, "plain C gives another strip");
-    printf("%8.1f%8.1f", number / plain_number, strip / plain_strip);
-}
-
-int main(void)
-{
-    static work works[] = {
-        {.title = "3 3 3 3 3", .kinds = 5, .stock = {3, 3, 3, 3, 3}},
-        {.title = "2 3 5 2 3", .kinds = 5, .stock = {2, 3, 5, 2, 3}},
-        {.title = "32 32", .kinds = 2, .stock = {32, 32}},
-        {.title = "sixteen 4s", .kinds = 16, .stock = {4, 4, 4, 4, 4, 4, 4, 4, 4, 4, 4, 4, 4, 4, 4, 4}},
-    };
-    fill_binomials();
-    printf("How many times as long as plain C: a move of Run and of Forward against a step of the same book and a\n"
-           "step in dictionary order, Number and Strip against the same numbering. Forward checks its input at each\n"
-           "call, Run once.\n\n");
-    printf("%-12s%8s%12s%8s%12s%8s%8s\n", "", "Run", "Run", "Forward", "Forward", "Number", "Strip");
-    printf("%-12s%8s%12s%8s%12s%8s%8s\n", "stock", "book", "dictionary", "book", "dictionary", "book", "book");
-    for (size_t i = 0; i < sizeof works / sizeof *works; i++) {
-        shuffle(&works[i]);
-        print_moves(&works[i]);
-        if (works[i].numbered) {
-            print_numbers(&works[i]);
-        } else {
-            printf("%8s%8s", "-", "-");
+    static moving *const movings[WAYS] = {by_run, by_left_rule, by_rule, by_dictionary};
+    static way ways[WAYS];
+    memset(ways, 0, sizeof ways);
+    for (int i = 0; i < WAYS; i++) {
+        memcpy(ways[i].strip, w->first, w->n);
+    }
+    for (uint64_t made = 0; made < w->moves;) {
+        size_t moves = w->moves - made < ROOM ? (size_t)(w->moves - made) : ROOM;
+        for (int i = 0; i < WAYS; i++) {
+            double began = now();
+            movings[i](w, &ways[i], moves);
+            ways[i].took += now() - began;
         }
-        printf("\n");
+        for (int i = 1; i < 3; i++) {
+            must(memcmp(ways[0].strip, ways[i].strip, w->n) == 0, "Run and plain C come to different strips");
+            must(memcmp(ways[0].list, ways[i].list, 2 * moves) == 0, "Run and plain C list different places");
+        }
+        made += moves;
+    }
+    printf("%-12s%12llu", w->title, (unsigned long long)w->moves);
+    for (int i = 0; i < WAYS; i++) {
+        printf("%11.1f", ways[i].took / (double)w->moves);
+    }
+    for (int i = 1; i < WAYS; i++) {
+        printf("%11.2f", ways[0].took / ways[i].took);
+    }
+    printf("\n");
+    return ways[0].took / (double)w->moves;
+}
+
+static void print_calls(work *w)
+{
+    double open = least(opens, w), forward = least(forwards, w);
+    printf("%-12s%9.0f%9.0f", w->title, open, forward);
+    if (!w->numbered) {
+        printf("%9s%9s%12s%12s\n", "-", "-", "-", "-");
+        return;
+    }
+    uint64_t given[STRIPS];
+    uint8_t lent[STRIPS][64];
+    memcpy(lent, w->strips, sizeof lent);
+    double number = least(numbers, w);
+    memcpy(given, w->numbers, sizeof given);
+    double plain_number = least(plain_numbers, w);
+    must(memcmp(given, w->numbers, sizeof given) == 0, "Number and plain C give different numbers");
+    double strip = least(strips, w);
+    must(memcmp(lent, w->strips, sizeof lent) == 0, "Strip gives another strip");
+    double plain_strip = least(plain_strips, w);
+    must(memcmp(lent, w->strips, sizeof lent) == 0, "plain C gives another strip");
+    printf("%9.0f%9.0f%12.2f%12.2f\n", number, strip, number / plain_number, strip / plain_strip);
+}
+
+int main(int count, char **arguments)
+{
+    static work works[STOCKS] = {
+        {.title = "3 3 3 3 3", .kinds = 5, .stock = {3, 3, 3, 3, 3}, .moves = 168167999},
+        {.title = "2 3 5 2 3", .kinds = 5, .stock = {2, 3, 5, 2, 3}, .moves = 75675599},
+        {.title = "32 32", .kinds = 2, .stock = {32, 32}, .moves = 20000000},
+        {.title = "sixteen 4s", .kinds = 16, .stock = {4, 4, 4, 4, 4, 4, 4, 4, 4, 4, 4, 4, 4, 4, 4, 4}, .moves = 20000000},
+    };
+    uint64_t most = count > 1 ? strtoull(arguments[1], NULL, 10) * 1000000 : UINT64_MAX;
+    double run[STOCKS];
+    fill_binomials();
+    printf("A move, from the first strip on: nanoseconds of Run, of plain C by the left rule, by the recursion and in\n"
+           "dictionary order; and how many times as long Run takes as each.\n\n");
+    printf("%-12s%12s%11s%11s%11s%11s%11s%11s%11s\n", "stock", "moves", "Run", "left", "recursion", "dictionary", "left",
+           "recursion", "dictionary");
+    for (size_t i = 0; i < STOCKS; i++) {
+        prepare(&works[i]);
+        works[i].moves = works[i].moves < most ? works[i].moves : most;
+        run[i] = print_moves(&works[i]);
+    }
+    printf("\nA move of Run of 32 32 takes %.2f times as long as one of 3 3 3 3 3.\n", run[2] / run[0]);
+    printf("\nA call, on strips in no order: nanoseconds; and how many times as long Number and Strip take as plain C.\n"
+           "Each call checks its input; plain C checks nothing.\n\n");
+    printf("%-12s%9s%9s%9s%9s%12s%12s\n", "stock", "Open", "Forward", "Number", "Strip", "Number", "Strip");
+    for (size_t i = 0; i < STOCKS; i++) {
+        print_calls(&works[i]);
     }
     return 0;
 }

@@ -1,6 +1,6 @@
 /* Plain C to hold the library against. Nothing is checked: the caller lends what is right. The book is stepped through
- * and numbered by the rule's own recursion, as the library does it; the order of a dictionary is the usual other way
- * through the strips of a stock. */
+ * by the rule's own recursion and by the rule from the left, and numbered by the recursion, as the library does it; the
+ * order of a dictionary is the usual other way through the strips of a stock. */
 #ifndef PLAIN_H
 #define PLAIN_H
 
@@ -10,6 +10,9 @@
 
 /* A call stays a call, as those of the library do. */
 #define CALLED __attribute__((noinline)) static
+
+/* One text serves for both finders, and each gets code of its own. */
+#define ALWAYS __attribute__((always_inline)) static inline
 
 static void exchange(uint8_t *strip, size_t low, size_t high)
 {
@@ -38,12 +41,16 @@ CALLED bool dictionary_next(uint8_t *strip, size_t n)
     return true;
 }
 
-/* ---- one kind in a word of a blocks, of which so many are others */
+/* ---- one kind in a word of a blocks, of which so many are others: its move on, or back */
 
 typedef struct {
     bool found;
     size_t low, high;
 } plain_step;
+
+typedef plain_step finder(const uint8_t *word, size_t a, uint8_t kind, size_t others, bool back);
+
+static const plain_step nowhere = {false, 0, 0};
 
 static plain_step or_else(plain_step step, size_t low, size_t high)
 {
@@ -55,7 +62,7 @@ static plain_step word_prev(const uint8_t *word, size_t a, uint8_t kind, size_t 
 static plain_step word_next(const uint8_t *word, size_t a, uint8_t kind, size_t others)
 {
     if (others == 0 || a <= others) {
-        return (plain_step){false, 0, 0};
+        return nowhere;
     }
     if (word[a - 1] == kind) {
         return or_else(word_next(word, a - 1, kind, others), a - 2, a - 1);
@@ -64,7 +71,7 @@ static plain_step word_next(const uint8_t *word, size_t a, uint8_t kind, size_t 
         return word_next(word, a - 2, kind, others - 2);
     }
     if (others == 1) {
-        return (plain_step){false, 0, 0};
+        return nowhere;
     }
     return or_else(word_prev(word, a - 2, kind, others - 1), others - 2, a - 2);
 }
@@ -72,7 +79,7 @@ static plain_step word_next(const uint8_t *word, size_t a, uint8_t kind, size_t 
 static plain_step word_prev(const uint8_t *word, size_t a, uint8_t kind, size_t others)
 {
     if (others == 0 || a <= others) {
-        return (plain_step){false, 0, 0};
+        return nowhere;
     }
     if (word[a - 1] == kind) {
         return word_prev(word, a - 1, kind, others);
@@ -81,6 +88,48 @@ static plain_step word_prev(const uint8_t *word, size_t a, uint8_t kind, size_t 
         return or_else(word_next(word, a - 2, kind, others - 1), a - 2, a - 1);
     }
     return or_else(word_prev(word, a - 2, kind, others - 2), others - 2, a - 2);
+}
+
+static inline plain_step by_recursion(const uint8_t *word, size_t a, uint8_t kind, size_t others, bool back)
+{
+    return back ? word_prev(word, a, kind, others) : word_next(word, a, kind, others);
+}
+
+/* By the first runs of the word. */
+static inline plain_step by_left(const uint8_t *word, size_t a, uint8_t kind, size_t others, bool back)
+{
+    size_t x = 0, j, k, l;
+    while (x < a && word[x] == kind) {
+        x++;
+    }
+    for (j = x; j < a && word[j] != kind;) {
+        j++;
+    }
+    if (((others - (j - x)) % 2 == 1) == back) {
+        if (j == a) {
+            return nowhere;
+        }
+        for (k = j + 1; k < a && word[k] != kind;) {
+            k++;
+        }
+        return (k - j) % 2 == 0 ? (plain_step){true, j, j + 1} : (plain_step){true, j - 1, j};
+    }
+    if (x > 0) {
+        if (j == x) {
+            return nowhere;
+        }
+        return (plain_step){true, (j - x) % 2 == 1 ? x - 1 : 0, x};
+    }
+    for (k = j; k < a && word[k] == kind;) {
+        k++;
+    }
+    for (l = k; l < a && word[l] != kind;) {
+        l++;
+    }
+    if (l == k) {
+        return nowhere;
+    }
+    return (l - k) % 2 == 1 ? (plain_step){true, j - 1, k - 1} : (plain_step){true, j, k};
 }
 
 static uint64_t binomials[65][65];
@@ -130,16 +179,18 @@ static void word_lay(uint8_t *word, size_t a, uint8_t kind, size_t others, uint6
 
 /* ---- the book of a stock */
 
-/* The next strip of the book, with the directions of its kinds; false on the last. */
-CALLED bool book_next(const uint16_t *stock, size_t kinds, uint8_t *strip, size_t n, bool *back)
+/* The next strip of the book, with the directions of its kinds and the places, from 1, of the two blocks that are
+ * exchanged; false on the last. */
+ALWAYS bool book_next(finder *find, const uint16_t *stock, size_t kinds, uint8_t *strip, size_t n, bool *back,
+                      uint8_t *places)
 {
     size_t lo = 0, hi = n;
     for (size_t j = kinds; j-- > 0;) {
-        size_t others = hi - lo - stock[j];
-        plain_step step = back[j] ? word_prev(strip + lo, hi - lo, (uint8_t)(j + 1), others)
-                                  : word_next(strip + lo, hi - lo, (uint8_t)(j + 1), others);
+        plain_step step = find(strip + lo, hi - lo, (uint8_t)(j + 1), hi - lo - stock[j], back[j]);
         if (step.found) {
             exchange(strip, lo + step.low, lo + step.high);
+            places[0] = (uint8_t)(lo + step.low + 1);
+            places[1] = (uint8_t)(lo + step.high + 1);
             for (size_t i = j + 1; i < kinds; i++) {
                 back[i] = !back[i];
             }
@@ -152,6 +203,29 @@ CALLED bool book_next(const uint16_t *stock, size_t kinds, uint8_t *strip, size_
         }
     }
     return false;
+}
+
+/* Moves on as Run does: answers how many moves there are, at most as many as the list has room for. */
+ALWAYS size_t book_run(finder *find, const uint16_t *stock, size_t kinds, uint8_t *strip, size_t n, bool *back,
+                       uint8_t *list, size_t room)
+{
+    size_t moves = 0;
+    while (moves < room && book_next(find, stock, kinds, strip, n, back, list + 2 * moves)) {
+        moves++;
+    }
+    return moves;
+}
+
+CALLED size_t run_by_recursion(const uint16_t *stock, size_t kinds, uint8_t *strip, size_t n, bool *back, uint8_t *list,
+                               size_t room)
+{
+    return book_run(by_recursion, stock, kinds, strip, n, back, list, room);
+}
+
+CALLED size_t run_by_left(const uint16_t *stock, size_t kinds, uint8_t *strip, size_t n, bool *back, uint8_t *list,
+                          size_t room)
+{
+    return book_run(by_left, stock, kinds, strip, n, back, list, room);
 }
 
 CALLED uint64_t book_number(const uint16_t *stock, size_t kinds, const uint8_t *strip, size_t n)

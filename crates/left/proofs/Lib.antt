@@ -1,3 +1,4 @@
 -- Proofs: nobody needs to read these to know what holds.
 mod ByCases
 mod FirstRuns
+pub mod Theorems

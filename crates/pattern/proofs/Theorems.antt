@@ -17,7 +17,7 @@ use Rattle.rules.proofs.Books.{pattern, without, lay-back, pattern-lay, without
 use Rattle.rules.proofs.Walk.{LaidExch, lay-exch}
 use Rattle.rules.proofs.Index.{rests, index}
 use Rattle.pattern.specs.declared.moves.Step.{Step}
-use Rattle.pattern.specs.Steps.{step}
+use Rattle.pattern.specs.Steps.{step, stepOf}
 use Rattle.pattern.proofs.moves.next.Kinds as next
 use Rattle.pattern.proofs.moves.next.Reads as next-reads
 use Rattle.pattern.proofs.moves.prev.Kinds as prev
@@ -96,7 +96,7 @@ module _ (d : Bool) (kind : ℕ) (word : List ℕ) where
     at-end = λ f. let z : _≡_ {A = ℕ} 0 1 = cc in absurd (omega arith);
   }
 
-  move-right : (r : Step) → r ≡ step (moveE d (pattern kind word)) → Right d kind word r
+  pub move-right : (r : Step) → r ≡ stepOf d kind word → Right d kind word r
   move-right r e = right (moveE d (pattern kind word)) r e (E-move a b (pattern kind word) is-word d)
 
 -- any answer that the contracts allow

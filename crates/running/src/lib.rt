@@ -1,2 +1,3 @@
 // Running: moving a strip on until a lent list of moves is full or the last strip is reached.
+mod finding;
 pub mod run;

@@ -1,9 +1,9 @@
 // Run: the strip moves on until the lent list has no room left or the last strip is reached.
+use crate::finding::find_on;
 use stock::Refusal;
 use walker::Walker;
 use walker::check::check_walker;
-use walking::finding::find;
-use walking::stepping::step;
+use walker::turning::turned_above;
 ghost use mathlib.Core.Path.{_≡_};
 ghost use Rattle.rules.specs.Refusals.{fine};
 ghost use Rattle.walking.specs.Checked.{Checked};
@@ -31,7 +31,7 @@ fn answered(moves: usize, last: bool, walker: Walker) -> Ran
     }
 }
 
-// Moves a checked strip on and lists the places, two a move.
+// Moves a checked strip on and lists the places, two a move. The next move is looked for before the room is, so that it is known whether there is one.
 fn run_on(stock: &[u16], strip: &mut [u8], walker: Walker, list: &mut [u8]) -> Ran
     requires { ⌜ Checked (now stock) (now strip) walker ⌝ }
     ensures { λ r. ⌜ Made (now (stock .entry)) (now (strip .entry)) (now (list .entry)) r (now (strip .exit)) (now (list .exit)) ⌝ }
@@ -39,22 +39,26 @@ fn run_on(stock: &[u16], strip: &mut [u8], walker: Walker, list: &mut [u8]) -> R
     let room = list.len() / 2;
     let mut walker = walker;
     let mut moves: usize = 0;
-    while moves < room {
-        let m = step(stock, strip, walker, false);
-        let refusal = m.refusal;
-        let no = refusal.no;
-        if no != 0 {
+    loop {
+        let m = find_on(stock, strip, walker);
+        let kind = m.kind;
+        let low = m.low;
+        let high = m.high;
+        if kind == 0 {
             return answered(moves, true, walker);
         }
-        list[2 * moves] = m.low;
-        list[2 * moves + 1] = m.high;
-        let next = m.walker;
-        walker = next;
+        if moves == room {
+            return answered(moves, false, walker);
+        }
+        let block = strip[low];
+        strip[low] = strip[high];
+        strip[high] = block;
+        list[2 * moves] = (low + 1) as u8;
+        list[2 * moves + 1] = (high + 1) as u8;
+        let turned = turned_above(walker, kind, stock.len());
+        walker = turned;
         moves += 1;
     }
-    let m = find(stock, strip, walker, false);
-    let last = m.kind == 0;
-    answered(moves, last, walker)
 }
 
 // The input is checked once; after that the strip only moves.

@@ -1,5 +1,5 @@
 -- Proofs: nobody needs to read these to know what holds.
-mod OneKind
+pub mod OneKind
 mod Beside
 pub mod OneMove
 pub mod Onward

@@ -1,14 +1,14 @@
 -- Proofs. One turn of finding the move, in the terms of the code: j kinds are left, kind j's direction is read from the walker, and its own step is tested.
 use Prim.Native.Nat.{ℕ, zero, suc, _+_, _-_, _≤_, _<_}
 use mathlib.Core.Path.{_≡_, refl, ap, _∙_}
-use mathlib.Core.Bool.{Bool, true, false, not, Bool·beq}
+use mathlib.Core.Bool.{Bool, true, false}
 use mathlib.Core.Option.{Option, none, some}
 use mathlib.Core.List.{List}
 use native.Mathlib.Omega.{arith}
 use borrow.Author.Tests.{le-leb}
 use lib.ListN.{length, getD, take, drop}
 use Rattle.rules.specs.Book.{backward}
-use Rattle.rules.proofs.Listed.{flip, differs}
+use Rattle.rules.proofs.Listed.{flip}
 use Rattle.rules.proofs.Strips.{moveOf}
 use Rattle.rules.proofs.Index.{rests}
 use Rattle.rules.proofs.Descent.{Descent, move-inside, others, fits, short, found as kind-moves, past-front, past-back}
@@ -33,10 +33,6 @@ direction-at counts s w v i l =
     let few = v .stock .few in
     rw (v .walker, walker-to counts s) (rw (le-leb (suc i) (length counts) l) at (to-at counts s (length counts) i (omega arith)))
 
--- the direction in which kind j's patterns run, as the code finds it
-abbrev pub heading : Bool → Walker → ℕ → Bool
-heading back w i = not (Bool·beq (getD (w .back) i false) back)
-
 -- i kinds are below kind j, whose patterns run in the direction f
 pub record Turn (back : Bool) (counts s : List ℕ) (f : Bool) (j i lo hi : ℕ) : Type 0 where
   pub fits : lo + getD counts i 0 ≤ hi
@@ -48,12 +44,12 @@ pub record Turn (back : Bool) (counts s : List ℕ) (f : Bool) (j i lo hi : ℕ)
   pub past-back : (m : Step) → m ≡ stepOf f j (take (hi - lo) (drop lo s)) → m .found ≡ false → f ≡ true → Descent back counts s i lo (hi - getD counts i 0)
 
 pub turn : (back : Bool) (counts s : List ℕ) (w : Walker) → Checked counts s w → (j lo hi : ℕ) → 0 < j → Descent back counts s j lo hi
-    → Turn back counts s (heading back w (j - 1)) j (j - 1) lo hi
-turn back counts s w v zero lo hi p h = absurd (omega arith)
-turn back counts s w v (suc i) lo hi p h =
+    → (f : Bool) → f ≡ flip (getD (w .back) (j - 1) false) back → Turn back counts s f j (j - 1) lo hi
+turn back counts s w v zero lo hi p h f is = absurd (omega arith)
+turn back counts s w v (suc i) lo hi p h f is =
     let l : i < length counts = omega (arith, h .kinds) in
     let e : suc i - 1 ≡ i = omega arith in
-    let f : heading back w i ≡ flip (backward counts (suc i) s) back = differs (getD (w .back) i false) back ∙ rw (direction-at counts s w v i l) in
+    let g : f ≡ flip (backward counts (suc i) s) back = is ∙ rw (e, direction-at counts s w v i l) in
     let k : length counts - (length counts - suc i) ≡ suc i = omega arith in
     let t : Turn back counts s (flip (backward counts (suc i) s) back) (suc i) i lo hi = record {
       fits = fits back counts s (v .strip) i lo hi l h;
@@ -66,4 +62,4 @@ turn back counts s w v (suc i) lo hi p h =
       past-front = λ m is g. past-front back counts s (v .strip) i lo hi l h (step-none _ m is g);
       past-back = λ m is g. past-back back counts s (v .strip) i lo hi l h (step-none _ m is g);
     } in
-    rw (e, f) t
+    rw (e, g) t

@@ -1,11 +1,14 @@
 -- `running::run::run_on` meets its contract. The invariant: after so many moves the run stands at the strip that many numbers further on.
-use Prim.Native.Nat.{_-_}
-use mathlib.Core.Path.{_≡_, _∙_}
+use Prim.Native.Nat.{_+_, _*_, _-_, _≤_, _<_}
+use mathlib.Core.Path.{_≡_}
+use mathlib.Core.Bool.{false}
 use native.Mathlib.Omega.{arith}
 use borrow.Author.Needs.{needs}
 use lib.ListN.{length, length-set}
+use Rattle.rules.proofs.Strips.{strip-sum}
 use Rattle.walking.specs.Checked.{Checked}
-use Rattle.running.proofs.Running.{Running, start, checked, same-strip, same-list, on, stop, full}
+use Rattle.walking.proofs.OneMove.{Makes}
+use Rattle.running.proofs.Running.{Running, start, checked, same-strip, same-list, stop, move, full, on}
 use Rattle.running.proofs.run.run_on.Statement.{statement}
 use Rattle.running.proofs.run.run_on.Tie as tie
 
@@ -29,28 +32,53 @@ module _ (b : tie.At-loop Inv-loop μ-loop) where
   list-kept : length (b .loop .list) ≡ length (b .before .before .before .before .args .list .now)
   list-kept = let p = b .before .before .before .before .pre in same-list _ _ _ _ _ _ _ (p .stock) (p .strip) (b .loop .inv)
 
-step-requires : tie.Need-step-requires Inv-loop μ-loop
-step-requires c κs = ready (c .before .before)
-
 returns : tie.Need-returns Inv-loop μ-loop
 returns c =
-    let s = c .before .before .before .before .before in
-    let b = s .before .before .before in
+    let f = c .before .before in
+    let b = f .before .before in
     let p = b .before .before .before .before .pre in
-    stop _ _ _ _ _ _ _ (p .stock) (p .strip) (b .loop .inv) _ _ (s .step .ensures) _ (c .answered .ensures) (omega arith) (omega arith)
-
-loop-again : tie.Need-loop-again Inv-loop μ-loop
-loop-again c =
-    let s = c .before .before .before .before .before in
-    let b = s .before .before .before in
-    let p = b .before .before .before .before .pre in
-    on _ _ _ _ _ _ _ (p .stock) (p .strip) (b .loop .inv) _ _ (s .step .ensures) (omega arith) (omega arith)
+    stop _ _ _ _ _ _ _ (p .stock) (p .strip) (b .loop .inv) _ (f .find-on .ensures) (c .before .if1 .taken) _ (c .answered .ensures)
 
 returns-2 : tie.Need-returns-2 Inv-loop μ-loop
 returns-2 c =
-    let a = c .before .before .before .before in
-    let p = a .before .before .before .before .before .pre in
-    full _ _ _ _ _ _ _ (p .stock) (p .strip) (a .before .loop .inv) _ (c .before .before .find .ensures) _ (c .answered2 .ensures) (omega arith)
+    let f = c .before .before .before in
+    let b = f .before .before in
+    let p = b .before .before .before .before .pre in
+    full _ _ _ _ _ _ _ (p .stock) (p .strip) (b .loop .inv) _ (f .find-on .ensures) (c .before .before .if1 .left) (c .before .if2 .taken) _ (c .answered2 .ensures)
+
+-- a move is found, and there is room for it
+module _ (e : tie.Else2 Inv-loop μ-loop) where
+  found : let f = e .before .before in let b = f .before .before in let m = f .find-on .result in
+      Makes false (b .before .before .before .before .args .stock .now) (b .loop .strip) (m .kind) (m .low) (m .high)
+  found =
+      let f = e .before .before in
+      let b = f .before .before in
+      let p = b .before .before .before .before .pre in
+      move _ _ _ _ _ _ _ (p .stock) (p .strip) (b .loop .inv) _ (f .find-on .ensures) (e .before .if1 .left)
+
+  inside : let f = e .before .before in let n = length (f .before .before .loop .strip) in (f .find-on .result .low < n) × (f .find-on .result .high < n) × (n ≤ 64)
+  inside =
+      let b = e .before .before .before .before in
+      let r = ready b in
+      (omega (arith, found .order, found .inside), found .inside, omega (arith, strip-sum (b .before .before .before .before .args .stock .now) (b .loop .strip) (r .strip), r .stock .short))
+
+  roomy : let b = e .before .before .before .before in 2 * b .loop .moves + 1 < length (b .loop .list)
+  roomy =
+      let b = e .before .before .before .before in
+      omega (arith, list-kept b, b .loop .inv .room, e .if2 .left)
+
+turned-above-requires : tie.Need-turned-above-requires Inv-loop μ-loop
+turned-above-requires c κs =
+    let e = c .before .before in
+    (found e .kinds, ready (e .before .before .before .before) .stock .few)
+
+loop-again : tie.Need-loop-again Inv-loop μ-loop
+loop-again c =
+    let e = c .before .before .before in
+    let f = e .before .before in
+    let b = f .before .before in
+    let p = b .before .before .before .before .pre in
+    on _ _ _ _ _ _ _ (p .stock) (p .strip) (b .loop .inv) _ (f .find-on .ensures) (e .before .if1 .left) (e .if2 .left) _ (c .turned-above .ensures)
 
 pub run-on-spec : {M : Type 1} → statement M
 run-on-spec =
@@ -59,21 +87,29 @@ run-on-spec =
     Inv-loop
     μ-loop
     loop-holds
-    step-requires
+    (λ c κs. ready (c .before))
     (λ c κs. search needs)
-    (λ c. let s = c .before .before .before .before .before in s .step .kept .1 .0 ∙ strip-kept (s .before .before .before))
-    (λ c. list-kept (c .before .before .before .before .before .before .before .before))
+    (λ c. strip-kept (c .before .before .before .before))
+    (λ c. list-kept (c .before .before .before .before))
     returns
-    (λ c. omega (arith, list-kept (c .before .before .before .before .before .before .before)))
-    (λ c. omega (arith, list-kept (c .before .before .before .before .before .before .before)))
-    (λ c. omega (arith, list-kept (c .before .before .before .before .before .before .before)))
-    (λ c. omega (arith, list-kept (c .before .before .before .before .before .before .before)))
-    (λ c. simp length-set (omega (arith, list-kept (c .before .before .before .before .before .before .before))))
-    (λ c. omega arith)
-    (λ c. omega arith)
-    loop-again
-    (λ c κs. ready (c .before .before))
     (λ c κs. search needs)
     (λ c. strip-kept (c .before .before .before .before .before))
     (λ c. list-kept (c .before .before .before .before .before))
-    returns-2)
+    returns-2
+    (λ c. omega (arith, inside (c .before)))
+    (λ c. omega (arith, inside (c .before .before)))
+    (λ c. omega (arith, inside (c .before .before)))
+    (λ c. simp length-set (omega (arith, inside (c .before .before))))
+    (λ c. omega (arith, inside (c .before .before)))
+    (λ c. omega (arith, inside (c .before .before)))
+    (λ c. omega (arith, roomy (c .before .before)))
+    (λ c. omega (arith, roomy (c .before .before)))
+    (λ c. omega (arith, inside (c .before .before)))
+    (λ c. omega (arith, inside (c .before .before)))
+    (λ c. omega (arith, roomy (c .before .before)))
+    (λ c. omega (arith, roomy (c .before .before)))
+    (λ c. simp length-set (roomy (c .before .before)))
+    turned-above-requires
+    (λ c. omega (arith, roomy (c .before .before .before)))
+    (λ c. omega (arith, roomy (c .before .before .before)))
+    loop-again)

@@ -1,11 +1,13 @@
 -- `walking::finding::find` meets its contract. The invariant: the blocks of the kinds that are left are a part of the strip, and the move is theirs.
 use Prim.Native.Nat.{_-_, _≤_}
 use mathlib.Core.Path.{_≡_, sym, ap}
+use mathlib.Core.Bool.{false, not, Bool·beq}
 use native.Mathlib.Omega.{arith}
-use lib.ListN.{length}
+use lib.ListN.{length, getD}
+use Rattle.rules.proofs.Listed.{differs}
 use Rattle.rules.proofs.Descent.{Descent, start, end}
 use Rattle.walking.specs.Checked.{found}
-use Rattle.walking.proofs.OneKind.{Turn, heading, turn}
+use Rattle.walking.proofs.OneKind.{Turn, turn}
 use Rattle.walking.proofs.finding.find.Statement.{statement}
 use Rattle.walking.proofs.finding.find.Tie as tie
 
@@ -20,8 +22,10 @@ loop-holds c = start _ _ _ (c .before .before .pre .strip)
 
 -- the turn that kind j takes
 at : (c : tie.In-loop Inv-loop μ-loop) → let a = c .before .before .before .before .args in let l = c .before .loop in
-    Turn (a .back) (a .stock .now) (a .strip .now) (heading (a .back) (a .t3) (l .j - 1)) (l .j) (l .j - 1) (l .lo) (l .hi)
-at c = let b = c .before .before .before .before in turn (b .args .back) _ _ _ (b .pre) _ _ _ (c .loop-test .taken) (c .before .loop .inv)
+    Turn (a .back) (a .stock .now) (a .strip .now) (not (Bool·beq (getD (a .t3 .back) (l .j - 1) false) (a .back))) (l .j) (l .j - 1) (l .lo) (l .hi)
+at c =
+    let b = c .before .before .before .before in
+    turn (b .args .back) _ _ _ (b .pre) _ _ _ (c .loop-test .taken) (c .before .loop .inv) _ (differs (getD (b .args .t3 .back) (c .before .loop .j - 1) false) (b .args .back))
 
 few : (c : tie.In-loop Inv-loop μ-loop) → let a = c .before .before .before .before in (c .before .loop .j ≤ length (a .args .stock .now)) × (length (a .args .stock .now) ≤ 16)
 few c = let b = c .before .before .before .before in (c .before .loop .inv .kinds, b .pre .stock .few)
