@@ -219,6 +219,7 @@ int main(int count, char **arguments)
         {.title = "sixteen 4s", .kinds = 16, .stock = {4, 4, 4, 4, 4, 4, 4, 4, 4, 4, 4, 4, 4, 4, 4, 4}, .moves = 20000000},
     };
     uint64_t most = count > 1 ? strtoull(arguments[1], NULL, 10) * 1000000 : UINT64_MAX;
+    must(most > 0, "MILLIONS is a number from 1 on");
     double run[STOCKS];
     fill_binomials();
     printf("A move, from the first strip on: nanoseconds of Run, of plain C by the left rule, by the recursion and in\n"
@@ -231,8 +232,8 @@ int main(int count, char **arguments)
         run[i] = print_moves(&works[i]);
     }
     printf("\nA move of Run of 32 32 takes %.2f times as long as one of 3 3 3 3 3.\n", run[2] / run[0]);
-    printf("\nA call, on strips in no order: nanoseconds; and how many times as long Number and Strip take as plain C.\n"
-           "Each call checks its input; plain C checks nothing.\n\n");
+    printf("\nA call: nanoseconds, of Forward from the first strip on, of the others on strips in no order; and how many times\n"
+           "as long Number and Strip take as plain C. Each call checks its input; plain C checks nothing.\n\n");
     printf("%-12s%9s%9s%9s%9s%12s%12s\n", "stock", "Open", "Forward", "Number", "Strip", "Number", "Strip");
     for (size_t i = 0; i < STOCKS; i++) {
         print_calls(&works[i]);

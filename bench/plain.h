@@ -95,37 +95,32 @@ static inline plain_step by_recursion(const uint8_t *word, size_t a, uint8_t kin
     return back ? word_prev(word, a, kind, others) : word_next(word, a, kind, others);
 }
 
-/* By the first runs of the word. */
+/* Where a run that begins at a place ends: of the kind, or of others. */
+static inline size_t run_end(const uint8_t *word, size_t a, uint8_t kind, bool own, size_t from)
+{
+    while (from < a && (word[from] == kind) == own) {
+        from++;
+    }
+    return from;
+}
+
+/* By the first runs of the word: x of the kind, perhaps none, and others to before j. */
 static inline plain_step by_left(const uint8_t *word, size_t a, uint8_t kind, size_t others, bool back)
 {
-    size_t x = 0, j, k, l;
-    while (x < a && word[x] == kind) {
-        x++;
-    }
-    for (j = x; j < a && word[j] != kind;) {
-        j++;
-    }
+    size_t x = run_end(word, a, kind, true, 0);
+    size_t j = run_end(word, a, kind, false, x);
     if (((others - (j - x)) % 2 == 1) == back) {
         if (j == a) {
             return nowhere;
         }
-        for (k = j + 1; k < a && word[k] != kind;) {
-            k++;
-        }
-        return (k - j) % 2 == 0 ? (plain_step){true, j, j + 1} : (plain_step){true, j - 1, j};
+        bool odd = (run_end(word, a, kind, false, j + 1) - (j + 1)) % 2 == 1;
+        return odd ? (plain_step){true, j, j + 1} : (plain_step){true, j - 1, j};
     }
     if (x > 0) {
-        if (j == x) {
-            return nowhere;
-        }
-        return (plain_step){true, (j - x) % 2 == 1 ? x - 1 : 0, x};
+        return j == x ? nowhere : (plain_step){true, (j - x) % 2 == 1 ? x - 1 : 0, x};
     }
-    for (k = j; k < a && word[k] == kind;) {
-        k++;
-    }
-    for (l = k; l < a && word[l] != kind;) {
-        l++;
-    }
+    size_t k = run_end(word, a, kind, true, j);
+    size_t l = run_end(word, a, kind, false, k);
     if (l == k) {
         return nowhere;
     }
