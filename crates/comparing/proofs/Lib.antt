@@ -3,5 +3,4 @@ mod Numbers
 mod Ahead
 mod Level
 mod Handed
-mod Signed
 pub mod Theorems

@@ -1,38 +1,31 @@
--- Theorems on Which, Earlier and Distance, over their contracts as the functions state them: `Post` says which answers each allows for which input.
-use Prim.Native.Nat.{ℕ, zero, suc, _^_, _≤_, _<_}
+-- Theorems on Which and Earlier, over their contracts as the functions state them: `Post` says which answers each allows for which input.
+use Prim.Native.Nat.{ℕ, zero, suc, _≤_, _<_}
 use mathlib.Core.Path.{_≡_, refl, sym, ap, _∙_}
 use mathlib.Core.List.{List}
 use native.Mathlib.Decide.{ℕ-discrete}
 use native.Mathlib.Omega.{arith}
 use borrow.Author.Tests.{ne-eqb}
-use lib.IntN.{ℤ, pos, _-ℤ_, +ℤ-invr}
-use mir.Syntax.{w64}
-use mir.Val.{SFits}
 use contract.Lifetimes.{Lfts}
 use borrow.Fn.Kinds.{Dens, endedOf}
 use denote.Triple.Clauses.{AtExit}
-use Rattle.rules.specs.Stock.{total, IsStock, IsStrip}
+use Rattle.rules.specs.Stock.{IsStock, IsStrip}
 use Rattle.rules.specs.Book.{book, placeIn}
 use Rattle.rules.specs.Refusals.{No, firstOf, unless, pairNos}
 use Rattle.rules.specs.Outcome.{OneAnswer}
 use Rattle.rules.proofs.Listed.{same-place}
 use Rattle.rules.proofs.Strips.{listed}
 use Rattle.rules.proofs.Places.{place-number}
-use Rattle.rules.proofs.Refusals.{passed-both, passed-first, unless-refused, unless-passed, many-passed}
-use Rattle.rules.proofs.Checks.{passed-head, accepted-pair, accepted-pair-back, numberable}
+use Rattle.rules.proofs.Refusals.{unless-refused, unless-passed}
+use Rattle.rules.proofs.Checks.{accepted-pair, accepted-pair-back}
 use Rattle.comparing.specs.declared.which.Compared.{Compared}
-use Rattle.comparing.specs.declared.distance.Apart.{Apart}
 use Rattle.comparing.specs.Order.{whichOf}
-use Rattle.comparing.specs.Answers.{whichAnswer, Lent, EmptyPart, named, IsEarlier, distanceNos, distanceAnswer}
+use Rattle.comparing.specs.Answers.{whichAnswer, Lent, EmptyPart, named, IsEarlier}
 use Rattle.comparing.proofs.Numbers.{which-first, which-second, which-equal, only-second, only-equal}
 use Rattle.comparing.proofs.Handed.{order, refused}
-use Rattle.comparing.proofs.Signed.{far-fits, fits-near}
 use Rattle.comparing.proofs.which.which.Kinds as which
 use Rattle.comparing.proofs.which.which.Reads as which-reads
 use Rattle.comparing.proofs.earlier.earlier.Kinds as earlier
 use Rattle.comparing.proofs.earlier.earlier.Reads as earlier-reads
-use Rattle.comparing.proofs.distance.distance.Kinds as distance
-use Rattle.comparing.proofs.distance.distance.Reads as distance-reads
 
 -- ---- Which
 
@@ -144,57 +137,3 @@ earlier-one-slice κs a x y s t h k = elim (ℕ-discrete (refused (a .0 .now) (a
       let g = earlier-refused κs a y t k f in
       (e .0 ∙ sym (g .0), e .1 ∙ sym (g .1))
 ]
-
--- ---- Distance
-
-pub distance-one-outcome : OneAnswer 3 distance.ps distance.r distance-reads.Post
-distance-one-outcome κs a x y s t h k = h ∙ sym k
-
--- any answer r that the contract allows for a stock and two strips
-module _ (κs : Lfts 3) (a : Dens κs distance.ps) (r : Apart) (s : AtExit (endedOf 3 distance.ps distance.r) κs) (h : distance-reads.Post κs a r s) where
-  abbrev the-counts : List ℕ
-  the-counts = a .0 .now
-
-  abbrev from : List ℕ
-  from = a .1 .0 .now
-
-  abbrev to : List ℕ
-  to = a .1 .1 .0 .now
-
-  -- from the number of the first to that of the second
-  abbrev moves : ℤ
-  moves = pos (placeIn (book the-counts) to) -ℤ pos (placeIn (book the-counts) from)
-
-  distance-no : r .refusal .no ≡ firstOf (distanceNos the-counts from to) .0
-  unfolding distanceAnswer
-  distance-no = ap (λ (r : Apart). r .refusal .no) h
-
-  moves-are : r .moves ≡ unless (firstOf (distanceNos the-counts from to)) (pos 0) moves
-  unfolding distanceAnswer
-  moves-are = ap (λ (r : Apart). r .moves) h
-
-  -- it refuses no more and no less than the table says: past the checks of the strips, a total of 2^64 or more, and a difference that no signed 64-bit number holds
-  pub distance-accepts : r .refusal .no ≡ 0 → IsStock the-counts × IsStrip the-counts from × IsStrip the-counts to × (total the-counts < 2 ^ 64) × SFits w64 moves
-  unfolding distanceNos
-  distance-accepts e =
-      let p = passed-both (pairNos the-counts from to) _ (sym distance-no ∙ e) in
-      let b = accepted-pair the-counts from to (p .0) in
-      let q = passed-head _ _ (p .1) in
-      (b .0, b .1, b .2, numberable the-counts (q .0), far-fits (placeIn (book the-counts) from) (placeIn (book the-counts) to) (passed-head _ _ (q .1) .0))
-
-  pub distance-accepted : IsStock the-counts → IsStrip the-counts from → IsStrip the-counts to → total the-counts < 2 ^ 64 → SFits w64 moves → r .refusal .no ≡ 0
-  unfolding distanceNos firstOf
-  distance-accepted stock one two few fits = distance-no ∙ rw (passed-first (pairNos the-counts from to) _ (accepted-pair-back the-counts from to stock one two), many-passed the-counts few, fits-near (placeIn (book the-counts) from) (placeIn (book the-counts) to) fits)
-
-  pub distance-is : r .refusal .no ≡ 0 → r .moves ≡ moves
-  distance-is e = moves-are ∙ unless-passed (pos 0) _ _ (sym distance-no ∙ e)
-
-  pub distance-refused-zero : (r .refusal .no ≡ 0 → ⊥) → r .moves ≡ pos 0
-  distance-refused-zero e = moves-are ∙ unless-refused (pos 0) _ _ (λ k. e (distance-no ∙ k))
-
-  -- from a strip to itself it is 0
-  pub self-zero : IsStock the-counts → IsStrip the-counts from → total the-counts < 2 ^ 64 → to ≡ from → (r .refusal .no ≡ 0) × (r .moves ≡ pos 0)
-  self-zero stock own few e =
-      let z : moves ≡ pos 0 = ap (λ (t : List ℕ). pos (placeIn (book the-counts) t) -ℤ pos (placeIn (book the-counts) from)) e ∙ +ℤ-invr (pos (placeIn (book the-counts) from)) in
-      let a : r .refusal .no ≡ 0 = distance-accepted stock own (rw e own) few (rw z (record { sfits = omega arith })) in
-      (a, distance-is a ∙ z)

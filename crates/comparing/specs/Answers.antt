@@ -1,16 +1,14 @@
--- TO BE BELIEVED. What each call answers, by the book and the table of refusals.
+-- TO BE BELIEVED. What Which and Earlier answer, by the book and the table of refusals.
 use Prim.Native.Nat.{ℕ}
 use mathlib.Core.Path.{_≡_}
 use mathlib.Core.Bool.{Bool, true, false}
-use mathlib.Core.List.{List, [], _∷_, _++_}
+use mathlib.Core.List.{List, []}
 use denote.Ref.{RefT}
 use lib.Dec.{eqb}
-use lib.IntN.{ℤ, pos, _-ℤ_}
 use Rattle.rules.specs.Book.{book, placeIn}
-use Rattle.rules.specs.Refusals.{No, firstOf, unless, answer, manyNo, farNo, pairNos}
+use Rattle.rules.specs.Refusals.{No, firstOf, unless, answer, pairNos}
 use Rattle.stock.specs.Refused.{refusal}
 use Rattle.comparing.specs.declared.which.Compared.{Compared}
-use Rattle.comparing.specs.declared.distance.Apart.{Apart}
 use Rattle.comparing.specs.Order.{whichOf}
 
 -- ---- Which: the strip with the smaller number; refusals 1, 2, 3, then 4, 5, 6 for the first strip, then for the second
@@ -44,18 +42,3 @@ IsEarlier counts first second r =
     unless (firstOf (pairNos counts (first .now) (second .now)))
     (EmptyPart first r)
     (r ≡ named (whichOf (placeIn (book counts) (first .now)) (placeIn (book counts) (second .now))) first second)
-
--- ---- Distance: the number of the second minus the number of the first, an integer; refused as Which, then 7, then 14
-
-abbrev pub asApart : No → ℤ → Apart
-asApart r n = record { refusal = refusal r; moves = n }
-
--- of two numbers, past all other refusals
-abbrev pub between : ℕ → ℕ → Apart
-between from to = answer asApart (farNo from to ∷ []) (pos 0) (pos to -ℤ pos from)
-
-unfoldable pub distanceNos : List ℕ → List ℕ → List ℕ → List No
-distanceNos counts first second = pairNos counts first second ++ (manyNo counts ∷ farNo (placeIn (book counts) first) (placeIn (book counts) second) ∷ [])
-
-unfoldable pub distanceAnswer : List ℕ → List ℕ → List ℕ → Apart
-distanceAnswer counts first second = answer asApart (distanceNos counts first second) (pos 0) (pos (placeIn (book counts) second) -ℤ pos (placeIn (book counts) first))

@@ -1,5 +1,4 @@
-// Comparing two strips of one stock: the calls Which, Earlier and Distance, one file for each.
-pub mod distance;
+// Comparing two strips of one stock: the calls Which and Earlier, one file for each.
 pub mod earlier;
 mod order;
 pub mod which;

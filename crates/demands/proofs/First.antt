@@ -26,15 +26,17 @@ use Rattle.numbering.proofs.number.number.Reads as number-reads
 use Rattle.numbering.proofs.strip.strip.Kinds as strip
 use Rattle.numbering.proofs.strip.strip.Reads as strip-reads
 use Rattle.comparing.specs.declared.which.Compared.{Compared}
-use Rattle.comparing.specs.declared.distance.Apart.{Apart}
-use Rattle.comparing.specs.Answers.{Lent, EmptyPart, whichAnswer, distanceNos, distanceAnswer}
-use Rattle.comparing.proofs.Theorems.{which-refused-zero, earlier-refused, distance-refused-zero}
+use Rattle.comparing.specs.Answers.{Lent, EmptyPart, whichAnswer}
+use Rattle.comparing.proofs.Theorems.{which-refused-zero, earlier-refused}
 use Rattle.comparing.proofs.which.which.Kinds as which
 use Rattle.comparing.proofs.which.which.Reads as which-reads
 use Rattle.comparing.proofs.earlier.earlier.Kinds as earlier
 use Rattle.comparing.proofs.earlier.earlier.Reads as earlier-reads
-use Rattle.comparing.proofs.distance.distance.Kinds as distance
-use Rattle.comparing.proofs.distance.distance.Reads as distance-reads
+use Rattle.measuring.specs.declared.distance.Apart.{Apart}
+use Rattle.measuring.specs.Answers.{distanceNos, distanceAnswer}
+use Rattle.measuring.proofs.Theorems.{distance-refused-zero}
+use Rattle.measuring.proofs.distance.distance.Kinds as distance
+use Rattle.measuring.proofs.distance.distance.Reads as distance-reads
 use Rattle.walker.specs.declared.open.Opened.{Opened}
 use Rattle.walker.specs.declared.Walker.{Walker}
 use Rattle.walker.specs.Walkers.{allForward}

@@ -3,7 +3,8 @@
 -- Earlier's is that of the slice: where it starts and what it holds. The driver's is over the reading of its contracts that `forward-is` and `back-is` show.
 pub use Rattle.counting.proofs.Theorems.{count-one-outcome, first-one-outcome}
 pub use Rattle.numbering.proofs.Theorems.{number-one-outcome, strip-one-outcome}
-pub use Rattle.comparing.proofs.Theorems.{which-one-outcome, earlier-one-slice, distance-one-outcome}
+pub use Rattle.comparing.proofs.Theorems.{which-one-outcome, earlier-one-slice}
+pub use Rattle.measuring.proofs.Theorems.{distance-one-outcome}
 pub use Rattle.walker.proofs.Theorems.{one-outcome as open-one-outcome}
 pub use Rattle.walking.proofs.Theorems.{forward-one-outcome, back-one-outcome}
 pub use Rattle.running.proofs.Theorems.{run-one-outcome}

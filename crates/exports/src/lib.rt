@@ -1,14 +1,14 @@
 // The open calls for C. Each has the contract of the call that it passes on; include/nelfrupi.h tells a C programmer what it says.
 pub mod driving;
 
-use comparing::distance::Apart;
-use comparing::distance::distance;
 use comparing::which::Compared;
 use comparing::which::which;
 use counting::count::Counted;
 use counting::count::count;
 use counting::first::first;
 use following::Readout;
+use measuring::distance::Apart;
+use measuring::distance::distance;
 use numbering::number::Numbered;
 use numbering::number::number;
 use numbering::strip::strip;
@@ -30,7 +30,8 @@ ghost use mathlib.Core.Path.{_≡_};
 ghost use mathlib.Core.Bool.{true, false};
 ghost use Rattle.counting.specs.Answers.{countAnswer, firstAnswer, firstAfter};
 ghost use Rattle.numbering.specs.Answers.{numberAnswer, stripAnswer, stripAfter};
-ghost use Rattle.comparing.specs.Answers.{whichAnswer, distanceAnswer};
+ghost use Rattle.comparing.specs.Answers.{whichAnswer};
+ghost use Rattle.measuring.specs.Answers.{distanceAnswer};
 ghost use Rattle.walker.specs.Answers.{openAnswer};
 ghost use Rattle.walking.specs.Answers.{moveAnswer, moveStrip};
 ghost use Rattle.running.specs.Answers.{runAnswer, runStrip, runList};

@@ -14,8 +14,8 @@ use Rattle.rules.proofs.Runs.{run, pattern-at, pattern-end}
 use Rattle.rules.proofs.Moves.{gate}
 use Rattle.rules.proofs.Endings.{gate-open}
 use Rattle.rules.proofs.Left.{ahead, near, far}
-use Rattle.pattern.specs.declared.moves.Step.{Step}
-use Rattle.pattern.specs.Steps.{step}
+use Rattle.moves.specs.declared.Step.{Step}
+use Rattle.moves.specs.Steps.{step}
 
 -- two bools that are tested for being the same
 pub same : (a b : Bool) → not (Bool·beq a b) ≡ false → a ≡ b

@@ -13,7 +13,7 @@ use Rattle.rules.proofs.Books.{pattern, length-pattern}
 use Rattle.rules.proofs.Index.{rests}
 use Rattle.rules.proofs.Runs.{run, past-K-countR, past-R-countR, run-whole, run-begins}
 use Rattle.rules.proofs.Left.{ahead, near, far, move-ahead, move-near, move-far}
-use Rattle.pattern.specs.Steps.{step, stepOf}
+use Rattle.moves.specs.Steps.{step, stepOf}
 
 module _ (j : ℕ) (s : List ℕ) (others x i : ℕ) (n : others ≡ rests j s) (p : x ≡ run K (pattern j s)) (q : i ≡ x + run R (drop x (pattern j s))) where
   abbrev w : Word

@@ -1,5 +1,5 @@
 // One kind's own move, found from the left end of its word of blocks: most moves happen there, so most of the word need not be read.
-mod moves;
 mod runs;
+mod steps;
 
-pub use moves::step_left;
+pub use steps::step_left;

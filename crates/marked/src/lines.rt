@@ -1,7 +1,7 @@
 // A printed line for each call.
 use crate::say;
-use comparing::distance::distance;
 use counting::count::count;
+use measuring::distance::distance;
 use numbering::number::number;
 use numbering::strip::strip;
 use running::run::run;

@@ -7,9 +7,9 @@ use crate::tally::EARLIER;
 use crate::tally::Tally;
 use crate::tally::WHICH;
 use crate::tally::note;
-use comparing::distance::distance;
 use comparing::earlier::earlier;
 use comparing::which::which;
+use measuring::distance::distance;
 
 // 1 for the first of two numbers, 2 for the second, 3 where they are equal.
 fn smaller(i: usize, j: usize) -> u8 {

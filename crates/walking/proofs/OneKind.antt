@@ -12,8 +12,8 @@ use Rattle.rules.proofs.Listed.{flip}
 use Rattle.rules.proofs.Strips.{moveOf}
 use Rattle.rules.proofs.Index.{rests}
 use Rattle.rules.proofs.Descent.{Descent, move-inside, others, fits, short, found as kind-moves, past-front, past-back}
-use Rattle.pattern.specs.declared.moves.Step.{Step}
-use Rattle.pattern.specs.Steps.{step, stepOf}
+use Rattle.moves.specs.declared.Step.{Step}
+use Rattle.moves.specs.Steps.{step, stepOf}
 use Rattle.walker.specs.declared.Walker.{Walker}
 use Rattle.walker.proofs.ByKind.{walker-to, to-at}
 use Rattle.walking.specs.Checked.{Checked, found}

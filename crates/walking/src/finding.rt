@@ -1,14 +1,14 @@
 // Finding the move: which kind moves, and which two places change blocks.
-use pattern::Step;
-use pattern::next;
-use pattern::prev;
+use moves::Step;
+use moves::next;
+use moves::prev;
 use walker::Walker;
 ghost use Prim.Native.Nat.{_≤_};
 ghost use mathlib.Core.Path.{_≡_};
 ghost use lib.ListN.{length};
 ghost use Rattle.rules.proofs.Index.{rests};
 ghost use Rattle.rules.proofs.Strips.{moveOf};
-ghost use Rattle.pattern.specs.Steps.{stepOf};
+ghost use Rattle.moves.specs.Steps.{stepOf};
 ghost use Rattle.walking.specs.Checked.{Checked, found};
 
 // The kind that moves, and the two places from 0, smaller first. No move: kind 0.
