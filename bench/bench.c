@@ -154,38 +154,49 @@ static void prepare(work *w)
     }
 }
 
-/* All ways go on together, one list of moves each in turn, so that what else the machine does falls on all of them. The
- * first three must come to the same places and the same strip. */
-static double print_moves(const work *w)
+/* One list of moves each way, in turn, so that what else the machine does falls on all of them. */
+static void go_on(const work *w, way *ways, size_t moves)
 {
     static moving *const movings[WAYS] = {by_run, by_left_rule, by_rule, by_dictionary};
-    static way ways[WAYS];
-    memset(ways, 0, sizeof ways);
     for (int i = 0; i < WAYS; i++) {
-        memcpy(ways[i].strip, w->first, w->n);
+        double began = now();
+        movings[i](w, &ways[i], moves);
+        ways[i].took += now() - began;
     }
+}
+
+/* The ways through the book must come to the same strip by the same places. */
+static void hold_together(const work *w, const way *ways, size_t moves)
+{
+    for (int i = 1; i < WAYS - 1; i++) {
+        must(memcmp(ways[0].strip, ways[i].strip, w->n) == 0, "Run and plain C come to different strips");
+        must(memcmp(ways[0].list, ways[i].list, 2 * moves) == 0, "Run and plain C list different places");
+    }
+}
+
+static void walk_all(const work *w, way *ways)
+{
     for (uint64_t made = 0; made < w->moves;) {
         size_t moves = w->moves - made < ROOM ? (size_t)(w->moves - made) : ROOM;
-        for (int i = 0; i < WAYS; i++) {
-            double began = now();
-            movings[i](w, &ways[i], moves);
-            ways[i].took += now() - began;
-        }
-        for (int i = 1; i < 3; i++) {
-            must(memcmp(ways[0].strip, ways[i].strip, w->n) == 0, "Run and plain C come to different strips");
-            must(memcmp(ways[0].list, ways[i].list, 2 * moves) == 0, "Run and plain C list different places");
-        }
+        go_on(w, ways, moves);
+        hold_together(w, ways, moves);
         made += moves;
     }
-    printf("%-12s%12llu", w->title, (unsigned long long)w->moves);
+}
+
+static double print_moves(const work *w)
+{
+    static way ways[WAYS];
     for (int i = 0; i < WAYS; i++) {
-        printf("%11.1f", ways[i].took / (double)w->moves);
+        ways[i] = (way){.took = 0};
+        memcpy(ways[i].strip, w->first, w->n);
     }
-    for (int i = 1; i < WAYS; i++) {
-        printf("%11.2f", ways[0].took / ways[i].took);
-    }
-    printf("\n");
-    return ways[0].took / (double)w->moves;
+    walk_all(w, ways);
+    double run = ways[0].took, left = ways[1].took, recursion = ways[2].took, dictionary = ways[3].took;
+    double moves = (double)w->moves;
+    printf("%-12s%12.0f%11.1f%11.1f%11.1f%11.1f%11.2f%11.2f%11.2f\n", w->title, moves, run / moves, left / moves,
+           recursion / moves, dictionary / moves, run / left, run / recursion, run / dictionary);
+    return run / moves;
 }
 
 static void print_calls(work *w)
