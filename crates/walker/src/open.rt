@@ -30,7 +30,7 @@ pub fn open(stock: &[u16], strip: &[u8]) -> Opened
     let rows = table();
     let found = walker_of(&rows, stock, strip);
     Opened {
-        refusal: checked,
+        refusal: Refusal { no: 0, place: 0 },
         walker: found,
     }
 }

@@ -7,7 +7,7 @@ use Rattle.left.proofs.steps.step_left.Statement.{statement}
 use Rattle.left.proofs.steps.step_left.Tie as tie
 
 sub-is-odd : tie.Need-sub-is-odd
-sub-is-odd c = counted _ _ _ _ _ (c .before .before .before .pre) (omega arith) (c .run-end2 .ensures .0)
+sub-is-odd c = omega (arith, counted _ _ _ _ _ (c .before .before .before .pre) (omega arith) (c .run-end2 .ensures .0))
 
 step-far-requires : tie.Need-step-far-requires
 step-far-requires c κs h =

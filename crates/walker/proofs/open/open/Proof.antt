@@ -2,8 +2,8 @@
 use mathlib.Core.Path.{_≡_, sym, ap, _∙_}
 use native.Mathlib.Omega.{arith}
 use borrow.Author.Needs.{needs}
-use Rattle.rules.specs.Refusals.{firstOf, checkNos}
-use Rattle.rules.proofs.Refusals.{unless-refused, unless-passed}
+use Rattle.rules.specs.Refusals.{fine, firstOf, checkNos}
+use Rattle.rules.proofs.Refusals.{unless-refused, answer-passed}
 use Rattle.rules.proofs.Checks.{accepted-both}
 use Rattle.stock.specs.declared.Refusal.{Refusal}
 use Rattle.stock.proofs.Tested.{passed, stopped}
@@ -36,8 +36,7 @@ returns-2 c =
     let b = c .before .before .before in
     let a = b .before .before .before .before .args in
     let k = checkNos (a .stock .now) (a .strip .now) in
-    ap (λ (r : Refusal). record { refusal = r; walker = c .walker-of .result }) (b .before .check-strip .ensures)
-    ∙ ap (asOpened (firstOf k)) (c .walker-of .ensures ∙ sym (unless-passed allForward _ (firstOf k) (none-yet b)))
+    ap (asOpened fine) (c .walker-of .ensures) ∙ answer-passed asOpened allForward _ k (none-yet b)
 
 pub open-spec : {M : Type 1} → statement M
 open-spec = tie.close (tie.spec (λ c κs. search needs) returns (λ c κs. search needs) walker-of-requires returns-2)
