@@ -39,7 +39,7 @@ use Rattle.measuring.proofs.distance.distance.Kinds as distance
 use Rattle.measuring.proofs.distance.distance.Reads as distance-reads
 use Rattle.walker.specs.declared.open.Opened.{Opened}
 use Rattle.walker.specs.declared.Walker.{Walker}
-use Rattle.walker.specs.Walkers.{allForward}
+use Rattle.walker.specs.Walkers.{allForward, walkerNos}
 use Rattle.walker.specs.Answers.{openAnswer}
 use Rattle.walker.proofs.Theorems.{refused-forward}
 use Rattle.walker.proofs.open.open.Kinds as opening
@@ -53,7 +53,7 @@ use Rattle.walking.proofs.back.back.Kinds as back
 use Rattle.walking.proofs.back.back.Reads as back-reads
 use Rattle.exports.proofs.Theorems.{Allowed, drive-right}
 use Rattle.running.specs.declared.run.Ran.{Ran}
-use Rattle.running.specs.Answers.{runNos, runAnswer}
+use Rattle.running.specs.Answers.{runAnswer}
 use Rattle.running.proofs.Theorems.{run-right}
 use Rattle.running.proofs.run.run.Kinds as run
 use Rattle.running.proofs.run.run.Reads as run-reads
@@ -151,7 +151,7 @@ drive-refuses d counts s w r t v h = record {
 -- ---- Run: 1 to 6, 10. Strip and list stay, and the walker is the one lent
 
 pub run-refuses : (κs : Lfts 3) (a : Dens κs run.ps) (r : Ran) (s : AtExit (endedOf 3 run.ps run.r) κs) → run-reads.Post κs a r s
-    → Refuses (runNos (a .0 .now) (a .1 .0 .now) (a .1 .1 .0)) (r .refusal)
+    → Refuses (walkerNos (a .0 .now) (a .1 .0 .now) (a .1 .1 .0)) (r .refusal)
     ((r .moves ≡ 0) × (r .last ≡ false) × (r .walker ≡ a .1 .1 .0) × (s .1 .0 .now ≡ a .1 .0 .now) × (s .1 .1 .1 .0 .now ≡ a .1 .1 .1 .0 .now))
 unfolding runAnswer
 run-refuses κs a r s h = record { named = ap (λ (r : Ran). r .refusal) (h .0); left = run-right κs a r s h .refused }

@@ -4,7 +4,7 @@ use mathlib.Core.Path.{_≡_, refl, sym, _∙_}
 use mathlib.Core.Bool.{Bool, true, false, not, cond, Bool·beq}
 use mathlib.Core.Option.{none, some}
 use mathlib.Core.List.{List, _∷_}
-use native.Mathlib.Numerals.{add-one}
+use native.Mathlib.Numerals.{add-one, sub-one}
 use native.Mathlib.Omega.{arith}
 use lib.Dec.{eqb}
 use lib.ListN.{length, getD, drop}
@@ -33,9 +33,6 @@ other false false h = h
 abbrev at : ℕ → ℕ → Step
 at low high = step (some (low, high))
 
-less-pred : (n : ℕ) → n - 1 ≡ pred n
-less-pred n = omega arith
-
 -- ---- ahead
 
 module _ (j : ℕ) (s : List ℕ) (i : ℕ) where
@@ -57,7 +54,7 @@ module _ (j : ℕ) (s : List ℕ) (i : ℕ) where
 
     pub ahead-even : odd n ≡ false → at (i - 1) i ≡ step (ahead i (drop i (pattern j s)))
     unfolding ahead
-    ahead-even o = rw (begins-K h e, ← is, o, less-pred i)
+    ahead-even o = rw (begins-K h e, ← is, o, sub-one i)
 
 -- ---- near and far: by the number n of others, two places if it is odd and two if it is even
 
@@ -81,7 +78,7 @@ module _ (x y : ℕ) where
 
   pub near-odd : (y ≡ 0 → ⊥) → odd y ≡ true → at (x - 1) x ≡ step (near x y)
   unfolding near
-  near-odd = rw (less-pred x) (gate-odd y (pred x, x) (0, x))
+  near-odd = rw (sub-one x) (gate-odd y (pred x, x) (0, x))
 
   pub near-even : (y ≡ 0 → ⊥) → odd y ≡ false → at 0 x ≡ step (near x y)
   unfolding near
@@ -94,7 +91,7 @@ module _ (y j u : ℕ) where
 
   pub far-odd : (u ≡ 0 → ⊥) → odd u ≡ true → at (y - 1) (j - 1) ≡ step (far y j u)
   unfolding far
-  far-odd = rw (less-pred y, less-pred j) (gate-odd u (pred y, pred j) (y, j))
+  far-odd = rw (sub-one y, sub-one j) (gate-odd u (pred y, pred j) (y, j))
 
   pub far-even : (u ≡ 0 → ⊥) → odd u ≡ false → at y j ≡ step (far y j u)
   unfolding far

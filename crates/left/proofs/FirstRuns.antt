@@ -19,13 +19,16 @@ module _ (j : ℕ) (s : List ℕ) (others x i : ℕ) (n : others ≡ rests j s) 
   abbrev w : Word
   w = pattern j s
 
+  -- the first run of others is a part of the others
   pub counted : i - x ≤ others
   unfolding rests
   counted = omega (arith, past-K-countR w, past-R-countR (drop (run K w) w), rw p at q)
 
+  -- a word that goes on behind both runs has a block in them
   pub begins : i < length s → 0 < i
   begins h = omega (arith, run-begins w (rw (length-pattern j s) (omega arith)), rw p at q)
 
+  -- behind the second run no other stands
   pub behind : run R (drop i w) ≡ 0
   behind = rw (q, ← drop-drop (run R (drop x w)) x w) (run-whole R (drop x w))
 

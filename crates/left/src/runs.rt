@@ -6,7 +6,7 @@ ghost use Rattle.rules.specs.Book.{odd};
 ghost use Rattle.rules.proofs.Books.{letter, pattern};
 ghost use Rattle.rules.proofs.Runs.{run};
 
-// Where a run that begins at a place ends: of the kind, or of others.
+// Where the run that begins at a place ends: a run of the kind where `own`, and else of others.
 pub fn run_end(word: &[u8], kind: u8, own: bool, from: usize) -> usize
     requires { ⌜ from ≤ length (now word) ⌝ }
     ensures { λ r. ⌜ (r ≡ from + run (letter own) (drop from (pattern kind (now (word .entry))))) × (r ≤ length (now (word .entry))) ⌝ }

@@ -1,6 +1,7 @@
 // The move by the first runs of a word: so many of the kind, so many others, again so many of the kind, and so on.
 use crate::runs::is_odd;
 use crate::runs::run_end;
+use moves::NONE;
 use moves::Step;
 ghost use Prim.Native.Nat.{_-_, _≤_, _<_};
 ghost use mathlib.Core.Path.{_≡_};
@@ -12,14 +13,8 @@ ghost use Rattle.rules.proofs.Left.{ahead, near, far};
 ghost use Rattle.rules.proofs.Runs.{run};
 ghost use Rattle.moves.specs.Steps.{step, stepOf};
 
-const NONE: Step = Step {
-    found: false,
-    low: 0,
-    high: 0,
-};
-
-// Moving on at place j, where a run of others ends. Behind the first of the kind an odd number of others makes the difference: where one more of the kind
-// follows there are none, and no more of the word is read.
+// Moving on at place j, where a run of others ends and a block of the kind stands, if the word goes on. Whether the others behind that block are odd in
+// number decides; where one more of the kind follows there are none, and no more of the word is read.
 fn step_ahead(word: &[u8], kind: u8, j: usize) -> Step
     requires { ⌜ (j ≤ length (now word)) × (j < length (now word) → 0 < j) × (run R (drop j (pattern kind (now word))) ≡ 0) ⌝ }
     ensures { λ r. ⌜ r ≡ step (ahead j (drop j (pattern kind (now (word .entry))))) ⌝ }
@@ -65,7 +60,7 @@ fn step_near(kinds: usize, others: usize) -> Step
     }
 }
 
-// Moving back at a run of others that begins at place j; as many as `first` others begin the word.
+// Moving back at a run of others that begins at place j, in a word that begins with so many others as `first` says.
 fn step_far(first: usize, j: usize, others: usize) -> Step
     requires { ⌜ ((others ≡ 0 → ⊥) → (0 < first) × (0 < j)) ⌝ }
     ensures { λ r. ⌜ r ≡ step (far first j others) ⌝ }

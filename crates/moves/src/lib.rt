@@ -7,14 +7,13 @@ ghost use Rattle.rules.proofs.Index.{rests};
 ghost use Rattle.moves.specs.Steps.{stepOf, orPlaces};
 
 // Two places to exchange, from 0, smaller first. Not found: both 0.
-#[repr(C)]
 pub struct Step {
     pub found: bool,
     pub low: usize,
     pub high: usize,
 }
 
-const NONE: Step = Step {
+pub const NONE: Step = Step {
     found: false,
     low: 0,
     high: 0,

@@ -8,7 +8,7 @@ use native.Mathlib.Omega.{arith}
 use lib.ListN.{length, drop}
 use lib.Seq.{drop-drop}
 use Rattle.rules.specs.Book.{K, R, Word, odd}
-use Rattle.rules.proofs.Listed.{flip}
+use Rattle.rules.proofs.Listed.{flip, flip-not-left}
 use Rattle.rules.proofs.Patterns.{countR}
 use Rattle.rules.proofs.Moves.{countK, gate, orElse, orElse-none, seamK, seamR, move, moveE, count-both}
 use Rattle.rules.proofs.Runs.{run, past, past-K-countR, past-R-countR}
@@ -67,34 +67,29 @@ scan t k r [] = none
 scan t k r (K ∷ q) = orElse (seamK′ (dir t q) (state q) k r) (scan t (suc k) r q)
 scan t k r (R ∷ q) = orElse (seamR′ (dir t q) (state q) k r) (scan t k (suc r) q)
 
-both : (v : Word) → length v ≡ countK v + countR v
-both v = omega (arith, count-both v)
+length-both : (v : Word) → length v ≡ countK v + countR v
+length-both v = omega (arith, count-both v)
 
 seamK-is : (d s : Bool) (v : Word) → seamK d s v ≡ seamK′ d s (countK v) (countR v)
 seamK-is true s v = refl
-seamK-is false false v = rw (both v)
-seamK-is false true v = rw (both v)
+seamK-is false false v = rw (length-both v)
+seamK-is false true v = rw (length-both v)
 
 seamR-is : (d s : Bool) (v : Word) → seamR d s v ≡ seamR′ d s (countK v) (countR v)
 seamR-is false s v = refl
-seamR-is true false v = rw (both v)
-seamR-is true true v = rw (both v)
+seamR-is true false v = rw (length-both v)
+seamR-is true true v = rw (length-both v)
 
 or-assoc : (o p q : Option (ℕ × ℕ)) → orElse (orElse o p) q ≡ orElse o (orElse p q)
 or-assoc none p q = refl
 or-assoc (some x) p q = refl
-
-flip-turn : (a b : Bool) → flip (not a) b ≡ not (flip a b)
-flip-turn false b = refl
-flip-turn true false = refl
-flip-turn true true = refl
 
 -- a K before q turns the direction if the state is the second
 dir-K : (t : Bool) (q : Word) → flip (state q) (dir t q) ≡ flip (odd (countR q)) t
 unfolding odd
 dir-K t [] = refl
 dir-K t (K ∷ q) = refl
-dir-K t (R ∷ q) = flip-turn (state q) (dir t q) ∙ ap not (dir-K t q) ∙ sym (flip-turn (odd (countR q)) t)
+dir-K t (R ∷ q) = flip-not-left (state q) (dir t q) ∙ ap not (dir-K t q) ∙ sym (flip-not-left (odd (countR q)) t)
 
 scan-is : (t : Bool) (q v : Word) → move t false (reverseAux q v) ≡ orElse (move (dir t q) (state q) v) (scan t (countK v) (countR v) q)
 unfolding odd move
@@ -117,25 +112,25 @@ no-R false s r = refl
 no-R true false r = refl
 no-R true true r = refl
 
-same : (a b c d : ℕ) → a ≡ c → b ≡ d → _≡_ {A = Option (ℕ × ℕ)} (some (a, b)) (some (c, d))
-same a b c d p q = cc
+same-places : (a b c d : ℕ) → a ≡ c → b ≡ d → _≡_ {A = Option (ℕ × ℕ)} (some (a, b)) (some (c, d))
+same-places a b c d p q = cc
 
 -- K and then a run of R that is odd if s is false: d is the direction at the run, and the one before the K is given
 module _ (k r : ℕ) (o : Option (ℕ × ℕ)) where
   turn-on : (d s : Bool) → flip (not s) d ≡ false → orElse (seamK′ d (not s) k (suc r)) (orElse (seamR′ d s (suc k) (suc r)) o) ≡ some (cond (not s) (k + suc r, suc (k + suc r)) (pred (k + suc r), k + suc r))
   turn-on true true h = absurd (true≢false h)
-  turn-on true false h = same _ _ _ _ (omega arith) (omega arith)
+  turn-on true false h = same-places _ _ _ _ (omega arith) (omega arith)
   turn-on false true h = refl
   turn-on false false h = absurd (true≢false h)
 
   turn-back : (d s : Bool) → flip (not s) d ≡ true → orElse (seamK′ d (not s) k (suc r)) (orElse (seamR′ d s (suc k) (suc r)) o) ≡ some (cond (not s) (r, pred (suc r + suc k)) (suc r, suc r + suc k))
-  turn-back true true h = same (suc r) (suc k + suc r) (suc r) (suc r + suc k) refl (omega arith)
+  turn-back true true h = same-places (suc r) (suc k + suc r) (suc r) (suc r + suc k) refl (omega arith)
   turn-back true false h = absurd (false≢true h)
   turn-back false true h = absurd (false≢true h)
-  turn-back false false h = same r (k + suc r) r (pred (suc r + suc k)) refl (omega arith)
+  turn-back false false h = same-places r (k + suc r) r (pred (suc r + suc k)) refl (omega arith)
 
 module _ (t : Bool) where
-  -- on, with R behind: the first K decides, or the R after it
+  -- on, with R before q: the first K decides, or the R after it
   to-K : (k r y : ℕ) (q : Word) → dir t q ≡ false → y ≡ suc r + run R q → scan t k (suc r) q ≡ leftAt false k y (past R q)
   unfolding odd leftAt ahead
   to-K k r y [] h e = refl
@@ -144,7 +139,7 @@ module _ (t : Bool) where
   to-K k r y (K ∷ K ∷ q) h e = let e : y ≡ suc r = omega arith in rw (h, e)
   to-K k r y (K ∷ R ∷ q) h e = let e : y ≡ suc r = omega arith in rw e (turn-on k r (scan t (suc k) (suc (suc r)) q) (dir t q) (state q) (dir-K t (R ∷ q) ∙ h))
 
-  -- back, in a run of K with R behind: its last K decides, or the R after it
+  -- back, in a run of K with R before it: its last K decides, or the R after it
   to-R : (k r z : ℕ) (q : Word) → dir t (K ∷ q) ≡ true → z ≡ suc k + run K q → scan t k (suc r) (K ∷ q) ≡ far (suc r) (suc r + z) (run R (past K q))
   unfolding odd far
   to-R k r z [] h e = rw h
@@ -162,8 +157,8 @@ module _ (t : Bool) where
   from-K k x (R ∷ q) e = let e : x ≡ k = omega arith in rw e (go (dir t q) (state q) refl refl)
     where
       go : (d s : Bool) → dir t q ≡ d → state q ≡ s → orElse (seamR′ d s (suc k) 0) (scan t (suc k) 1 q) ≡ leftAt d (suc k) (suc (run R q)) (past R q)
-      go true false h e = rw e (same _ _ _ _ (omega arith) (omega arith))
-      go true true h e = rw e (same _ _ _ _ refl (omega arith))
+      go true false h e = rw e (same-places _ _ _ _ (omega arith) (omega arith))
+      go true true h e = rw e (same-places _ _ _ _ refl (omega arith))
       go false s h e = to-K (suc k) 0 (suc (run R q)) q h (omega arith)
 
   from-R : (r y : ℕ) (q : Word) → y ≡ suc r + run R q → scan t 0 (suc r) q ≡ leftAt (dir t q) 0 y (past R q)
@@ -180,15 +175,15 @@ module _ (t : Bool) where
       go true h = to-R 0 r (suc (run K q)) q h (omega arith)
       go false h = to-K 0 r (suc r) (K ∷ q) h (omega arith)
 
-  whole : (w : Word) → scan t 0 0 w ≡ leftAt (dir t (past K w)) (run K w) (run R (past K w)) (past R (past K w))
+  scan-whole : (w : Word) → scan t 0 0 w ≡ leftAt (dir t (past K w)) (run K w) (run R (past K w)) (past R (past K w))
   unfolding odd leftAt ahead far
-  whole [] = go t
+  scan-whole [] = go t
     where
       go : (d : Bool) → none ≡ leftAt d 0 0 []
       go true = refl
       go false = refl
-  whole (K ∷ w) = rw (no-K (dir t w) (state w) 0) (from-K 0 (run K w) w (omega arith))
-  whole (R ∷ w) = rw (no-R (dir t w) (state w) 0) (from-R 0 (suc (run R w)) w (omega arith))
+  scan-whole (K ∷ w) = rw (no-K (dir t w) (state w) 0) (from-K 0 (run K w) w (omega arith))
+  scan-whole (R ∷ w) = rw (no-R (dir t w) (state w) 0) (from-R 0 (suc (run R w)) w (omega arith))
 
 -- the rule finds what `moveE` finds
 pub left-is-moveE : (back : Bool) (w : Word) → leftMove back w ≡ moveE back w
@@ -196,7 +191,7 @@ unfolding leftMove moveE move
 left-is-moveE back w =
     let y = run R (past K w) in
     let c : countR w - y ≡ countR (past R (past K w)) = omega (arith, past-K-countR w, past-R-countR (past K w)) in
-    rw (← drop-drop y (run K w) w, c) (sym (scan-is back w [] ∙ whole back w))
+    rw (← drop-drop y (run K w) w, c) (sym (scan-is back w [] ∙ scan-whole back w))
 
 -- ---- by the places x and j where the first two runs end, as code finds them
 

@@ -24,6 +24,21 @@ run R (R ∷ w) = suc (run R w)
 abbrev pub past : Letter → Word → Word
 past x w = drop (run x w) w
 
+-- behind a whole run its letter does not stand
+pub run-whole : (x : Letter) (w : Word) → run x (past x w) ≡ 0
+run-whole K [] = refl
+run-whole K (K ∷ w) = run-whole K w
+run-whole K (R ∷ w) = refl
+run-whole R [] = refl
+run-whole R (K ∷ w) = refl
+run-whole R (R ∷ w) = run-whole R w
+
+-- a word that has letters begins with a run
+pub run-begins : (w : Word) → 0 < length w → 0 < run K w + run R (past K w)
+run-begins [] h = absurd (omega arith)
+run-begins (K ∷ w) h = omega arith
+run-begins (R ∷ w) h = omega arith
+
 -- ---- the letters R, without those of a run
 
 pub past-K-countR : (w : Word) → countR w ≡ countR (past K w)
@@ -63,18 +78,3 @@ module _ (j : ℕ) (s : List ℕ) (i : ℕ) where
   pub run-ends : (own : Bool) → length s ≤ i → run (letter own) (drop i (pattern j s)) ≡ 0
   run-ends true h = rw (pattern-end h)
   run-ends false h = rw (pattern-end h)
-
--- behind a whole run its letter does not stand
-pub run-whole : (x : Letter) (w : Word) → run x (past x w) ≡ 0
-run-whole K [] = refl
-run-whole K (K ∷ w) = run-whole K w
-run-whole K (R ∷ w) = refl
-run-whole R [] = refl
-run-whole R (K ∷ w) = refl
-run-whole R (R ∷ w) = run-whole R w
-
--- a word that has letters begins with a run
-pub run-begins : (w : Word) → 0 < length w → 0 < run K w + run R (past K w)
-run-begins [] h = absurd (omega arith)
-run-begins (K ∷ w) h = omega arith
-run-begins (R ∷ w) h = omega arith

@@ -20,14 +20,14 @@ use Rattle.rules.proofs.Refusals.{passed-both, passed-first, passed-fine, unles
 use Rattle.rules.proofs.Checks.{accepted-both, accepted-both-back}
 use Rattle.rules.proofs.Places.{place-below}
 use Rattle.walker.specs.declared.Walker.{Walker}
-use Rattle.walker.specs.Walkers.{walkerOf, walkerNo}
+use Rattle.walker.specs.Walkers.{walkerOf, walkerNo, walkerNos}
 use Rattle.walker.proofs.Differing.{accepted-walker, walker-accepted}
 use Rattle.walking.specs.Answers.{onward, left}
 use Rattle.walking.specs.Walks.{after, numberAfter, StayBelow}
 use Rattle.walking.proofs.Onward.{onward-place}
 use Rattle.walking.proofs.Theorems.{walk-from}
 use Rattle.running.specs.declared.run.Ran.{Ran}
-use Rattle.running.specs.Answers.{runNos, runMoves, asRan, runAnswer, runStrip, movesFrom, runList}
+use Rattle.running.specs.Answers.{runMoves, asRan, runAnswer, runStrip, movesFrom, runList}
 use Rattle.running.proofs.run.run.Kinds as run
 use Rattle.running.proofs.run.run.Reads as reads
 
@@ -75,7 +75,7 @@ module _ (counts s : List ℕ) (w : Walker) (list₀ : List ℕ) (r : Ran) (t li
   abbrev u : List ℕ
   u = onward counts s m
 
-  no-is : r .refusal .no ≡ firstOf (runNos counts s w) .0
+  no-is : r .refusal .no ≡ firstOf (walkerNos counts s w) .0
   unfolding runAnswer
   no-is = ap (λ (r : Ran). r .refusal .no) (is .0)
 
@@ -85,8 +85,8 @@ module _ (counts s : List ℕ) (w : Walker) (list₀ : List ℕ) (r : Ran) (t li
 
   -- accepted
   module _ (z : r .refusal .no ≡ 0) where
-    none : firstOf (runNos counts s w) ≡ fine
-    none = passed-fine (runNos counts s w) (sym no-is ∙ z)
+    none : firstOf (walkerNos counts s w) ≡ fine
+    none = passed-fine (walkerNos counts s w) (sym no-is ∙ z)
 
     answer-is : r ≡ asRan fine m (eqb m (left counts s)) (walkerOf counts u)
     unfolding runAnswer
@@ -101,7 +101,6 @@ module _ (counts s : List ℕ) (w : Walker) (list₀ : List ℕ) (r : Ran) (t li
     list-is = is .2 ∙ rw none
 
     both : IsStock counts × IsStrip counts s
-    unfolding runNos
     both = accepted-both counts s (passed-both (checkNos counts s) (walkerNo counts s w ∷ []) (sym no-is ∙ z) .0)
 
     at : placeIn (book counts) u ≡ placeIn (book counts) s + m
@@ -116,7 +115,6 @@ module _ (counts s : List ℕ) (w : Walker) (list₀ : List ℕ) (r : Ran) (t li
     used h = omega (arith, at, place-below counts s (both .1))
 
     own-walker : length (w .back) ≡ 16 → w ≡ walkerOf counts s
-    unfolding runNos
     own-walker l = accepted-walker counts s w l (sym no-is ∙ z) .2
 
     forwards : length (w .back) ≡ 16 → after counts (replicate m false) s w ≡ (u, walkerOf counts u)
@@ -129,7 +127,7 @@ module _ (counts s : List ℕ) (w : Walker) (list₀ : List ℕ) (r : Ran) (t li
   stays : (r .refusal .no ≡ 0 → ⊥) → (r .moves ≡ 0) × (r .last ≡ false) × (r .walker ≡ w) × (t ≡ s) × (list ≡ list₀)
   unfolding runAnswer runStrip runList
   stays z =
-      let n = firstOf (runNos counts s w) in
+      let n = firstOf (walkerNos counts s w) in
       let k : n .0 ≡ 0 → ⊥ = λ e. z (no-is ∙ e) in (
         ap (λ (r : Ran). r .moves) (is .0) ∙ unless-refused 0 m n k,
         ap (λ (r : Ran). r .last) (is .0) ∙ unless-refused false _ n k,
@@ -139,7 +137,7 @@ module _ (counts s : List ℕ) (w : Walker) (list₀ : List ℕ) (r : Ran) (t li
       )
 
   accepts-back : IsStock counts → IsStrip counts s → w ≡ walkerOf counts s → r .refusal .no ≡ 0
-  unfolding runNos firstOf
+  unfolding firstOf
   accepts-back k h v = no-is ∙ ap (λ (r : No). r .0) (passed-first (checkNos counts s) (walkerNo counts s w ∷ []) (accepted-both-back counts s k h)) ∙ rw (v, walker-accepted counts s)
 
   right : RunRight counts s w list₀ r t list

@@ -1,11 +1,11 @@
 -- TO BE BELIEVED. Document 01: the walker of a strip, and refusal 10.
 use Prim.Native.Nat.{ℕ, suc}
 use mathlib.Core.Bool.{Bool, true, false, not, _&&_}
-use mathlib.Core.List.{List, [], _∷_, map}
+use mathlib.Core.List.{List, [], _∷_, _++_, map}
 use lib.Dec.{leb}
 use lib.ListN.{length, replicate}
 use Rattle.rules.specs.Book.{backward}
-use Rattle.rules.specs.Refusals.{No, atPlace, pick}
+use Rattle.rules.specs.Refusals.{No, atPlace, pick, checkNos}
 use Rattle.walker.specs.declared.Walker.{Walker}
 
 abbrev pub kinds : List ℕ
@@ -38,3 +38,7 @@ differingFrom j (b ∷ d) (c ∷ e) = pick (alike b c) (differingFrom (suc j) d 
 -- 10: the walker is not what Open gives for this strip; the smallest wrong kind
 unfoldable pub walkerNo : List ℕ → List ℕ → Walker → No
 walkerNo counts s w = atPlace 10 (differingFrom 1 (w .back) (walkerOf counts s .back))
+
+-- the refusals of a stock, a strip and a walker: 1 to 6, then 10
+abbrev pub walkerNos : List ℕ → List ℕ → Walker → List No
+walkerNos counts s w = checkNos counts s ++ (walkerNo counts s w ∷ [])

@@ -3,10 +3,9 @@ use crate::Walker;
 use crate::open::open;
 use stock::Refusal;
 ghost use mathlib.Core.Path.{_≡_};
-ghost use mathlib.Core.List.{[], _∷_, _++_};
-ghost use Rattle.rules.specs.Refusals.{firstOf, checkNos};
+ghost use Rattle.rules.specs.Refusals.{firstOf};
 ghost use Rattle.stock.specs.Refused.{refusal};
-ghost use Rattle.walker.specs.Walkers.{differingFrom, walkerNo};
+ghost use Rattle.walker.specs.Walkers.{differingFrom, walkerNos};
 
 // The smallest kind at which two walkers differ; 0 where there is none.
 fn wrong_kind(one: Walker, other: Walker) -> u64
@@ -26,7 +25,7 @@ fn wrong_kind(one: Walker, other: Walker) -> u64
 
 // The first refusal of a stock, a strip of it and a walker.
 pub fn check_walker(stock: &[u16], strip: &[u8], w: Walker) -> Refusal
-    ensures { λ r. ⌜ r ≡ refusal (firstOf (checkNos (now (stock .entry)) (now (strip .entry)) ++ (walkerNo (now (stock .entry)) (now (strip .entry)) w ∷ []))) ⌝ }
+    ensures { λ r. ⌜ r ≡ refusal (firstOf (walkerNos (now (stock .entry)) (now (strip .entry)) w)) ⌝ }
 {
     let opened = open(stock, strip);
     let checked = opened.refusal;

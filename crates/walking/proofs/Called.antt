@@ -6,21 +6,17 @@ use mathlib.Core.List.{List, [], _∷_, _++_, append-assoc}
 use lib.ListN.{length}
 use lib.Dec.{eqb}
 use Rattle.rules.specs.Book.{book, placeIn}
-use Rattle.rules.specs.Refusals.{No, firstOf, when, checkNos}
+use Rattle.rules.specs.Refusals.{firstOf, when, checkNos}
 use Rattle.rules.proofs.Refusals.{refused-first, passed-first, unless-refused}
 use Rattle.stock.specs.declared.Refusal.{Refusal}
 use Rattle.stock.specs.Refused.{refusal}
 use Rattle.stock.proofs.Tested.{passed, stopped}
 use Rattle.walker.specs.declared.Walker.{Walker}
-use Rattle.walker.specs.Walkers.{walkerNo}
+use Rattle.walker.specs.Walkers.{walkerNo, walkerNos}
 use Rattle.walker.proofs.Differing.{accepted-walker}
 use Rattle.walking.specs.declared.Moved.{Moved}
 use Rattle.walking.specs.Answers.{beside, left, endNo, asMoved, moveNos, moveAnswer, moveStrip}
 use Rattle.walking.specs.Checked.{Checked, stepAnswer, stepStrip}
-
--- 1 to 6, then 10
-abbrev pub firstNos : List ℕ → List ℕ → Walker → List No
-firstNos counts s w = checkNos counts s ++ (walkerNo counts s w ∷ [])
 
 one-row : (n : ℕ) (b : Bool) → firstOf (when (suc n) b ∷ []) ≡ when (suc n) b
 unfolding firstOf
@@ -33,13 +29,13 @@ end-row false counts s = one-row 8 (eqb (left counts s) 0)
 end-row true counts s = one-row 8 (eqb (placeIn (book counts) s) 0)
 
 -- what none of 1 to 6 and 10 refuses
-pub checked : (counts s : List ℕ) (w : Walker) (r : Refusal) → r ≡ refusal (firstOf (firstNos counts s w)) → length (w .back) ≡ 16 → r .no ≡ 0 → Checked counts s w
+pub checked : (counts s : List ℕ) (w : Walker) (r : Refusal) → r ≡ refusal (firstOf (walkerNos counts s w)) → length (w .back) ≡ 16 → r .no ≡ 0 → Checked counts s w
 checked counts s w r is l h =
-    let b = accepted-walker counts s w l (passed (firstNos counts s w) r is h) in
+    let b = accepted-walker counts s w l (passed (walkerNos counts s w) r is h) in
     record { stock = b .0; strip = b .1; walker = b .2 }
 
-module _ (d : Bool) (counts s : List ℕ) (w : Walker) (r : Refusal) (is : r ≡ refusal (firstOf (firstNos counts s w))) where
-  rows : moveNos d counts s w ≡ firstNos counts s w ++ (endNo d counts s ∷ [])
+module _ (d : Bool) (counts s : List ℕ) (w : Walker) (r : Refusal) (is : r ≡ refusal (firstOf (walkerNos counts s w))) where
+  rows : moveNos d counts s w ≡ walkerNos counts s w ++ (endNo d counts s ∷ [])
   unfolding moveNos
   rows = sym (append-assoc (checkNos counts s) (walkerNo counts s w ∷ []) (endNo d counts s ∷ []))
 
@@ -47,7 +43,7 @@ module _ (d : Bool) (counts s : List ℕ) (w : Walker) (r : Refusal) (is : r ≡
   pub refused : (r .no ≡ 0 → ⊥) → (record { refusal = r; low = 0; high = 0; walker = w } ≡ moveAnswer d counts s w) × (s ≡ moveStrip d counts s w)
   unfolding moveAnswer moveStrip
   refused h =
-      let a = firstNos counts s w in
+      let a = walkerNos counts s w in
       let k = stopped a r is h in
       let e : firstOf (moveNos d counts s w) ≡ firstOf a = ap firstOf rows ∙ refused-first a (endNo d counts s ∷ []) k in
       rw (is, e, unless-refused {A = List ℕ} [] _ (firstOf a) k)
@@ -57,6 +53,6 @@ module _ (d : Bool) (counts s : List ℕ) (w : Walker) (r : Refusal) (is : r ≡
   pub decided : (m : Moved) (t : List ℕ) → (m ≡ stepAnswer d counts s w) × (t ≡ stepStrip d counts s) → r .no ≡ 0 → (m ≡ moveAnswer d counts s w) × (t ≡ moveStrip d counts s w)
   unfolding moveAnswer moveStrip stepAnswer stepStrip
   decided m t step h =
-      let a = firstNos counts s w in
+      let a = walkerNos counts s w in
       let e : firstOf (moveNos d counts s w) ≡ endNo d counts s = ap firstOf rows ∙ passed-first a (endNo d counts s ∷ []) (passed a r is h) ∙ end-row d counts s in
       rw e step

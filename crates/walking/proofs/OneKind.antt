@@ -33,7 +33,7 @@ direction-at counts s w v i l =
     let few = v .stock .few in
     rw (v .walker, walker-to counts s) (rw (le-leb (suc i) (length counts) l) at (to-at counts s (length counts) i (omega arith)))
 
--- i kinds are below kind j, whose patterns run in the direction f
+-- i kinds are below kind j, which steps on (f false) or back (f true) in the list of its patterns
 pub record Turn (back : Bool) (counts s : List ℕ) (f : Bool) (j i lo hi : ℕ) : Type 0 where
   pub fits : lo + getD counts i 0 ≤ hi
   pub short : length (take (hi - lo) (drop lo s)) ≤ 64

@@ -11,7 +11,7 @@ use Rattle.rules.specs.Neighbours.{Neighbours, places}
 use Rattle.rules.specs.Refusals.{No, fine}
 use Rattle.rules.proofs.Exchange.{swap, exchanged}
 use Rattle.rules.proofs.Walk.{Move}
-use Rattle.rules.proofs.Strips.{moveOf}
+use Rattle.rules.proofs.Strips.{moveOf, strip-sum}
 use Rattle.rules.proofs.Neighbours.{swapped-places, swapped-neighbours}
 use Rattle.walker.specs.declared.Walker.{Walker}
 use Rattle.walker.specs.Walkers.{walkerOf}
@@ -79,6 +79,10 @@ module _ (d : Bool) (counts s : List ℕ) (h : IsStrip counts s) where
 
     pub found-some : (m .kind ≡ 0 → ⊥) → Makes d counts s (m .kind) (m .low) (m .high)
     found-some = tells-some (moveOf d counts s) m is (outcome counts s h d)
+
+-- the places that a move exchanges stand in the strip, which has at most 64 blocks
+pub places-inside : {d : Bool} {counts s : List ℕ} {w : Walker} {j low high : ℕ} → Checked counts s w → Makes d counts s j low high → (low < length s) × (high < length s) × (length s ≤ 64)
+places-inside {d} {counts} {s} c m = (omega (arith, m .order, m .inside), m .inside, omega (arith, strip-sum counts s (c .strip), c .stock .short))
 
 -- ---- what the step answers
 

@@ -39,7 +39,7 @@ pub record MoveRight (d : Bool) (counts s : List ℕ) (w : Walker) (r : Moved) (
 
 module _ (counts s : List ℕ) where
   -- 9 is passed exactly where the book has a strip beside
-  pub has-beside : (d : Bool) → IsStrip counts s → endNo d counts s .0 ≡ 0 → HasBeside d (total counts) (placeIn (book counts) s)
+  has-beside : (d : Bool) → IsStrip counts s → endNo d counts s .0 ≡ 0 → HasBeside d (total counts) (placeIn (book counts) s)
   unfolding endNo left
   has-beside false h e = omega (arith, eqb-false (total counts - 1 - placeIn (book counts) s) 0 (when-passed 8 _ e), place-below counts s h)
   has-beside true h e = omega (arith, eqb-false (placeIn (book counts) s) 0 (when-passed 8 _ e))
@@ -50,7 +50,7 @@ module _ (counts s : List ℕ) where
   beside-allowed true l = rw (ne-eqb (placeIn (book counts) s) 0 (omega arith))
 
   -- and the strip beside has the number beside
-  pub beside-place : (d : Bool) → IsStrip counts s → HasBeside d (total counts) (placeIn (book counts) s) → Onward d (placeIn (book counts) s) (placeIn (book counts) (beside d counts s))
+  beside-place : (d : Bool) → IsStrip counts s → HasBeside d (total counts) (placeIn (book counts) s) → Onward d (placeIn (book counts) s) (placeIn (book counts) (beside d counts s))
   unfolding beside onward
   beside-place false h l = omega (arith, book-place counts (placeIn (book counts) s + 1) l)
   beside-place true h l = omega (arith, book-place counts (placeIn (book counts) s - 1) (omega (arith, place-below counts s h)))

@@ -25,12 +25,12 @@ when-some n false h = absurd (h refl)
 when-some n true h = refl
 
 module _ (counts s : List ℕ) where
-  pub end-none : (d : Bool) → endNo d counts s .0 ≡ 0 → endNo d counts s ≡ fine
+  end-none : (d : Bool) → endNo d counts s .0 ≡ 0 → endNo d counts s ≡ fine
   unfolding endNo
   end-none false = when-none 9 (eqb (left counts s) 0)
   end-none true = when-none 9 (eqb (placeIn (book counts) s) 0)
 
-  pub end-some : (d : Bool) → (endNo d counts s .0 ≡ 0 → ⊥) → endNo d counts s ≡ (9, 0)
+  end-some : (d : Bool) → (endNo d counts s .0 ≡ 0 → ⊥) → endNo d counts s ≡ (9, 0)
   unfolding endNo
   end-some false = when-some 9 (eqb (left counts s) 0)
   end-some true = when-some 9 (eqb (placeIn (book counts) s) 0)

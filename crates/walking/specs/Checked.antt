@@ -1,4 +1,4 @@
--- What the private functions promise of a strip that is checked. No open call's contract cites it, so nothing here is to be believed.
+-- What the functions behind the calls promise of a strip that is checked. No open call's contract cites it, so nothing here is to be believed.
 use Prim.Native.Nat.{ℕ, _-_}
 use mathlib.Core.Path.{_≡_}
 use mathlib.Core.Bool.{Bool}

@@ -2,7 +2,7 @@
 pub mod back;
 pub mod finding;
 pub mod forward;
-pub mod moving;
+mod moving;
 pub mod stepping;
 
 use stock::Refusal;

@@ -5,9 +5,8 @@ use mathlib.Core.Bool.{false}
 use native.Mathlib.Omega.{arith}
 use borrow.Author.Needs.{needs}
 use lib.ListN.{length, length-set}
-use Rattle.rules.proofs.Strips.{strip-sum}
 use Rattle.walking.specs.Checked.{Checked}
-use Rattle.walking.proofs.OneMove.{Makes}
+use Rattle.walking.proofs.OneMove.{Makes, places-inside}
 use Rattle.running.proofs.Running.{Running, start, checked, same-strip, same-list, stop, move, full, on}
 use Rattle.running.proofs.run.run_on.Statement.{statement}
 use Rattle.running.proofs.run.run_on.Tie as tie
@@ -57,10 +56,7 @@ module _ (e : tie.Else2 Inv-loop μ-loop) where
       move _ _ _ _ _ _ _ (p .stock) (p .strip) (b .loop .inv) _ (f .find-on .ensures) (e .before .if1 .left)
 
   inside : let f = e .before .before in let n = length (f .before .before .loop .strip) in (f .find-on .result .low < n) × (f .find-on .result .high < n) × (n ≤ 64)
-  inside =
-      let b = e .before .before .before .before in
-      let r = ready b in
-      (omega (arith, found .order, found .inside), found .inside, omega (arith, strip-sum (b .before .before .before .before .args .stock .now) (b .loop .strip) (r .strip), r .stock .short))
+  inside = places-inside (ready (e .before .before .before .before)) found
 
   roomy : let b = e .before .before .before .before in 2 * b .loop .moves + 1 < length (b .loop .list)
   roomy =

@@ -3,8 +3,7 @@ use Prim.Native.Nat.{_≤_, _<_}
 use native.Mathlib.Omega.{arith}
 use borrow.Author.Needs.{needs}
 use lib.ListN.{length, length-set}
-use Rattle.rules.proofs.Strips.{strip-sum}
-use Rattle.walking.proofs.OneMove.{Makes, found-none, found-some, stays, moves}
+use Rattle.walking.proofs.OneMove.{Makes, found-none, found-some, places-inside, stays, moves}
 use Rattle.walking.proofs.stepping.step.Statement.{statement}
 use Rattle.walking.proofs.stepping.step.Tie as tie
 
@@ -21,10 +20,7 @@ move c =
     found-some (b .args .back) _ _ (b .pre .strip) _ (c .before .find .ensures) (omega arith)
 
 inside : (c : tie.Else1) → let n = length (c .before .before .before .before .before .args .strip .now) in let m = c .before .find .result in (m .low < n) × (m .high < n) × (n ≤ 64)
-inside c =
-    let b = c .before .before .before .before .before in
-    let m = move c in
-    (omega (arith, m .order, m .inside), m .inside, omega (arith, strip-sum (b .args .stock .now) (b .args .strip .now) (b .pre .strip), b .pre .stock .short))
+inside c = places-inside (c .before .before .before .before .before .pre) (move c)
 
 turned-above-requires : tie.Need-turned-above-requires
 turned-above-requires c κs =
