@@ -1,6 +1,7 @@
 -- One outcome: for each open call two outcomes, the answer and the content of everything lent, that its contract allows for one input are the same.
 -- Each is stated over `Post`, the contract as the checker reads it from the source, in the crate of its call; this file is the list of them.
 -- Earlier's is that of the slice: where it starts and what it holds. The driver's is over the reading of its contracts that `forward-is` and `back-is` show.
+-- The calls for C have theirs too, over their own contracts.
 pub use Rattle.counting.proofs.Theorems.{count-one-outcome, first-one-outcome}
 pub use Rattle.numbering.proofs.Theorems.{number-one-outcome, strip-one-outcome}
 pub use Rattle.comparing.proofs.Theorems.{which-one-outcome, earlier-one-slice}
@@ -12,3 +13,7 @@ pub use Rattle.exports.proofs.Theorems.{forward-is, back-is, drive-one-outcome}
 pub use Rattle.papers.proofs.Theorems.{one-outcome as same-paper-one-outcome}
 pub use Rattle.writing.proofs.Theorems.{one-outcome as write-sheet-one-outcome}
 pub use Rattle.reading.proofs.Theorems.{one-outcome as read-sheet-one-outcome, one-buffer as read-sheet-one-buffer}
+pub use Rattle.exports.proofs.Outcomes.{count-one-outcome-for-c, first-one-outcome-for-c, number-one-outcome-for-c, strip-one-outcome-for-c}
+pub use Rattle.exports.proofs.Outcomes.{which-one-outcome-for-c, distance-one-outcome-for-c, same-paper-one-outcome-for-c}
+pub use Rattle.exports.proofs.Outcomes.{open-one-outcome-for-c, forward-one-outcome-for-c, back-one-outcome-for-c, run-one-outcome-for-c}
+pub use Rattle.exports.proofs.Outcomes.{write-sheet-one-outcome-for-c, read-sheet-one-outcome-for-c}

@@ -1,0 +1,80 @@
+-- One outcome for each call for C, over its own contract as the checker reads it. That contract is the one of the call that is passed on, so that call's theorem
+-- is the proof. The press driver's calls have theirs in `Theorems.antt`.
+use Prim.Native.Nat.{ℕ}
+use mathlib.Core.List.{List}
+use Rattle.rules.specs.Outcome.{OneAnswer, OneOutcome}
+use Rattle.counting.proofs.Theorems.{count-one-outcome, first-one-outcome}
+use Rattle.numbering.proofs.Theorems.{number-one-outcome, strip-one-outcome}
+use Rattle.comparing.proofs.Theorems.{which-one-outcome}
+use Rattle.measuring.proofs.Theorems.{distance-one-outcome}
+use Rattle.walker.proofs.Theorems.{one-outcome as open-one-outcome}
+use Rattle.walking.proofs.Theorems.{forward-one-outcome, back-one-outcome}
+use Rattle.running.proofs.Theorems.{run-one-outcome}
+use Rattle.papers.proofs.Theorems.{one-outcome as same-paper-one-outcome}
+use Rattle.writing.proofs.Theorems.{one-outcome as write-sheet-one-outcome}
+use Rattle.reading.proofs.Theorems.{one-outcome as read-sheet-one-outcome, one-buffer as read-sheet-one-buffer}
+use Rattle.exports.proofs.nelfrupi_count.Kinds as count
+use Rattle.exports.proofs.nelfrupi_count.Reads as count-reads
+use Rattle.exports.proofs.nelfrupi_first.Kinds as first
+use Rattle.exports.proofs.nelfrupi_first.Reads as first-reads
+use Rattle.exports.proofs.nelfrupi_number.Kinds as number
+use Rattle.exports.proofs.nelfrupi_number.Reads as number-reads
+use Rattle.exports.proofs.nelfrupi_strip.Kinds as strip
+use Rattle.exports.proofs.nelfrupi_strip.Reads as strip-reads
+use Rattle.exports.proofs.nelfrupi_which.Kinds as which
+use Rattle.exports.proofs.nelfrupi_which.Reads as which-reads
+use Rattle.exports.proofs.nelfrupi_distance.Kinds as distance
+use Rattle.exports.proofs.nelfrupi_distance.Reads as distance-reads
+use Rattle.exports.proofs.nelfrupi_open.Kinds as opening
+use Rattle.exports.proofs.nelfrupi_open.Reads as opening-reads
+use Rattle.exports.proofs.nelfrupi_forward.Kinds as forward
+use Rattle.exports.proofs.nelfrupi_forward.Reads as forward-reads
+use Rattle.exports.proofs.nelfrupi_back.Kinds as back
+use Rattle.exports.proofs.nelfrupi_back.Reads as back-reads
+use Rattle.exports.proofs.nelfrupi_run.Kinds as run
+use Rattle.exports.proofs.nelfrupi_run.Reads as run-reads
+use Rattle.exports.proofs.nelfrupi_same_paper.Kinds as same-paper
+use Rattle.exports.proofs.nelfrupi_same_paper.Reads as same-paper-reads
+use Rattle.exports.proofs.nelfrupi_write_sheet.Kinds as write-sheet
+use Rattle.exports.proofs.nelfrupi_write_sheet.Reads as write-sheet-reads
+use Rattle.exports.proofs.nelfrupi_read_sheet.Kinds as read-sheet
+use Rattle.exports.proofs.nelfrupi_read_sheet.Reads as read-sheet-reads
+
+pub count-one-outcome-for-c : OneAnswer 1 count.ps count.r count-reads.Post
+count-one-outcome-for-c = count-one-outcome
+
+pub first-one-outcome-for-c : OneOutcome 2 first.ps first.r (λ κs s. s .1 .0 .now) first-reads.Post
+first-one-outcome-for-c = first-one-outcome
+
+pub number-one-outcome-for-c : OneAnswer 2 number.ps number.r number-reads.Post
+number-one-outcome-for-c = number-one-outcome
+
+pub strip-one-outcome-for-c : OneOutcome 2 strip.ps strip.r (λ κs s. s .1 .1 .0 .now) strip-reads.Post
+strip-one-outcome-for-c = strip-one-outcome
+
+pub which-one-outcome-for-c : OneAnswer 3 which.ps which.r which-reads.Post
+which-one-outcome-for-c = which-one-outcome
+
+pub distance-one-outcome-for-c : OneAnswer 3 distance.ps distance.r distance-reads.Post
+distance-one-outcome-for-c = distance-one-outcome
+
+pub open-one-outcome-for-c : OneAnswer 2 opening.ps opening.r opening-reads.Post
+open-one-outcome-for-c = open-one-outcome
+
+pub forward-one-outcome-for-c : OneOutcome 2 forward.ps forward.r (λ κs s. s .1 .0 .now) forward-reads.Post
+forward-one-outcome-for-c = forward-one-outcome
+
+pub back-one-outcome-for-c : OneOutcome 2 back.ps back.r (λ κs s. s .1 .0 .now) back-reads.Post
+back-one-outcome-for-c = back-one-outcome
+
+pub run-one-outcome-for-c : OneOutcome 3 run.ps run.r {C = List ℕ × List ℕ} (λ κs s. (s .1 .0 .now, s .1 .1 .1 .0 .now)) run-reads.Post
+run-one-outcome-for-c = run-one-outcome
+
+pub same-paper-one-outcome-for-c : OneAnswer 3 same-paper.ps same-paper.r same-paper-reads.Post
+same-paper-one-outcome-for-c = same-paper-one-outcome
+
+pub write-sheet-one-outcome-for-c : OneOutcome 3 write-sheet.ps write-sheet.r (λ κs s. s .1 .1 .1 .0 .now) write-sheet-reads.Post
+write-sheet-one-outcome-for-c = write-sheet-one-outcome
+
+pub read-sheet-one-outcome-for-c : OneOutcome 2 read-sheet.ps read-sheet.r (λ κs s. s .1 .0 .now) read-sheet-reads.Post
+read-sheet-one-outcome-for-c κs a x y s t h k = (read-sheet-one-outcome κs a x y s t h k, read-sheet-one-buffer κs a x y s t h k)
