@@ -15,6 +15,9 @@
  *   be written overlaps with nothing else that is lent to the same call. What the elements are is free: any content is
  *   taken, and a bad one is refused. A walker's sixteen bytes are each true or false.
  *   No call keeps a pointer, takes memory or has a state of its own. Every call comes back.
+ *   Besides the caller's stack a call on a sheet needs up to 28 KiB, any other up to 22 KiB: most copy the table of
+ *   binomials, which has 17 KiB, and recursion is at most 64 deep. This is measured on the library as it is built now,
+ *   and is not promised.
  *
  * REFUSALS
  *   Each answer says in `refusal` whether the call was accepted (no 0, place 0) or refused (a number of this table, and
@@ -201,7 +204,9 @@ typedef struct {
  * of the buffer, whose later bytes are as they were. The buffer has 64 bytes or more.
  * Refused: 4 for a buffer under 64 bytes; then record by record: 11 for a kind, an order or a body cut short; 1 (no
  * count but 0), 2 (a count of 0 before one that is not), 3 in the stock; 5, 6, then 11 for the padding, in the strip;
- * 12 in a move. A record that is missing is 11 at the sheet's length. The buffer is then as it was. */
+ * 12 in a move. A record that is missing is 11 at the sheet's length. The buffer is then as it was.
+ * The places of 1, 2, 3, 5 and 6 are the table's: kinds of the stock and places of the strip that the sheet holds. Only
+ * those of 11 and 12 are bytes of the sheet. */
 nelfrupi_readout nelfrupi_read_sheet(const uint8_t *sheet, size_t sheet_length, uint8_t *buffer, size_t length);
 
 #ifdef __cplusplus
