@@ -7,9 +7,12 @@ use lib.ListN.{length}
 use contract.Lifetimes.{Lfts}
 use borrow.Fn.Kinds.{Dens, endedOf}
 use denote.Triple.Clauses.{AtExit}
+use Rattle.rules.specs.Stock.{IsStock, IsStrip}
 use Rattle.rules.specs.Book.{same}
+use Rattle.rules.specs.Refusals.{firstOf, pairNos}
 use Rattle.rules.specs.Outcome.{OneAnswer}
 use Rattle.rules.proofs.Refusals.{unless-refused, unless-passed}
+use Rattle.rules.proofs.Checks.{accepted-pair, accepted-pair-back}
 use Rattle.rules.proofs.Places.{same-self, same-true}
 use Rattle.papers.specs.declared.Asked.{Asked}
 use Rattle.papers.specs.Papers.{turned, isTurn, samePaperAnswer}
@@ -23,20 +26,34 @@ one-outcome κs a x y s t h k = h ∙ sym k
 
 -- any answer r that the contract allows for a stock and two strips
 module _ (κs : Lfts 3) (a : Dens κs same-paper.ps) (r : Asked) (s : AtExit (endedOf 3 same-paper.ps same-paper.r) κs) (h : reads.Post κs a r s) where
+  abbrev counts : List ℕ
+  counts = a .0 .now
+
   abbrev first : List ℕ
   first = a .1 .0 .now
 
   abbrev second : List ℕ
   second = a .1 .1 .0 .now
 
+  no-is : r .refusal .no ≡ firstOf (pairNos counts first second) .0
+  unfolding samePaperAnswer
+  no-is = ap (λ (r : Asked). r .refusal .no) h
+
   same-is : r .refusal .no ≡ 0 → r .same ≡ isTurn first second
   unfolding samePaperAnswer
-  same-is e = ap (λ (r : Asked). r .same) h ∙ unless-passed false _ _ (sym (ap (λ (r : Asked). r .refusal .no) h) ∙ e)
+  same-is e = ap (λ (r : Asked). r .same) h ∙ unless-passed false _ _ (sym no-is ∙ e)
+
+  -- it refuses no more and no less than the table says
+  pub accepts : r .refusal .no ≡ 0 → IsStock counts × IsStrip counts first × IsStrip counts second
+  accepts e = accepted-pair counts first second (sym no-is ∙ e)
+
+  pub accepted : IsStock counts → IsStrip counts first → IsStrip counts second → r .refusal .no ≡ 0
+  accepted stock one two = no-is ∙ accepted-pair-back counts first second stock one two
 
   -- a refused answer is no
   pub refused-no : (r .refusal .no ≡ 0 → ⊥) → r .same ≡ false
   unfolding samePaperAnswer
-  refused-no e = ap (λ (r : Asked). r .same) h ∙ unless-refused false _ _ (λ k. e (ap (λ (r : Asked). r .refusal .no) h ∙ k))
+  refused-no e = ap (λ (r : Asked). r .same) h ∙ unless-refused false _ _ (λ k. e (no-is ∙ k))
 
   -- yes: the second strip is the first turned by some number of places below n
   pub yes-turned : r .refusal .no ≡ 0 → r .same ≡ true → (t : ℕ) × (t < length first) × (turned t first ≡ second)
