@@ -14,6 +14,7 @@ use Rattle.rules.specs.Outcome.{OneOutcome}
 use Rattle.rules.proofs.Checks.{accepted-both-back}
 use Rattle.rules.proofs.Refusals.{unless-passed}
 use Rattle.rules.proofs.Places.{place-undone, place-below, book-only, book-place}
+use Rattle.walker.specs.declared.Walker.{Walker}
 use Rattle.walker.specs.Walkers.{walkerOf, allForward}
 use Rattle.walker.specs.Answers.{openAnswer}
 use Rattle.walking.specs.declared.Moved.{Moved}
@@ -42,6 +43,21 @@ forward-right κs a r s h = right false _ _ _ r _ h
 pub back-right : (κs : Lfts 2) (a : Dens κs back.ps) (r : Moved) (s : AtExit (endedOf 2 back.ps back.r) κs) → back-reads.Post κs a r s
     → MoveRight true (a .0 .now) (a .1 .0 .now) (a .1 .1 .0) r (s .1 .0 .now)
 back-right κs a r s h = right true _ _ _ r _ h
+
+-- ---- and is one move of a walk
+
+pub move-after : (d : Bool) (counts s : List ℕ) (w : Walker) (r : Moved) (t : List ℕ) → (r ≡ moveAnswer d counts s w) × (t ≡ moveStrip d counts s w)
+    → after counts (d ∷ []) s w ≡ (t, r .walker)
+unfolding after
+move-after d counts s w r t is = rw (is .0, is .1) refl
+
+pub forward-after : (κs : Lfts 2) (a : Dens κs forward.ps) (r : Moved) (s : AtExit (endedOf 2 forward.ps forward.r) κs) → forward-reads.Post κs a r s
+    → after (a .0 .now) (false ∷ []) (a .1 .0 .now) (a .1 .1 .0) ≡ (s .1 .0 .now, r .walker)
+forward-after κs a r s h = move-after false _ _ _ r _ h
+
+pub back-after : (κs : Lfts 2) (a : Dens κs back.ps) (r : Moved) (s : AtExit (endedOf 2 back.ps back.r) κs) → back-reads.Post κs a r s
+    → after (a .0 .now) (true ∷ []) (a .1 .0 .now) (a .1 .1 .0) ≡ (s .1 .0 .now, r .walker)
+back-after κs a r s h = move-after true _ _ _ r _ h
 
 -- ---- demand 3
 
