@@ -1,14 +1,16 @@
 -- Theorems on Which and Earlier, over their contracts as the functions state them: `Post` says which answers each allows for which input.
 use Prim.Native.Nat.{ℕ, zero, suc, _≤_, _<_}
 use mathlib.Core.Path.{_≡_, refl, sym, ap, _∙_}
-use mathlib.Core.List.{List}
+use mathlib.Core.Bool.{Bool, true, false}
+use mathlib.Core.List.{List, []}
 use native.Mathlib.Decide.{ℕ-discrete}
 use native.Mathlib.Omega.{arith}
 use borrow.Author.Tests.{ne-eqb}
+use lib.Dec.{eqb}
 use contract.Lifetimes.{Lfts}
 use borrow.Fn.Kinds.{Dens, endedOf}
 use denote.Triple.Clauses.{AtExit}
-use Rattle.rules.specs.Stock.{IsStock, IsStrip}
+use Rattle.rules.specs.Stock.{count, IsStock, IsStrip}
 use Rattle.rules.specs.Book.{book, placeIn}
 use Rattle.rules.specs.Refusals.{No, firstOf, unless, pairNos}
 use Rattle.rules.specs.Outcome.{OneAnswer}
@@ -19,7 +21,7 @@ use Rattle.rules.proofs.Refusals.{unless-refused, unless-passed}
 use Rattle.rules.proofs.Checks.{accepted-pair, accepted-pair-back}
 use Rattle.comparing.specs.declared.which.Compared.{Compared}
 use Rattle.comparing.specs.Order.{whichOf}
-use Rattle.comparing.specs.Answers.{whichAnswer, Lent, EmptyPart, named, IsEarlier}
+use Rattle.comparing.specs.Answers.{whichAnswer, Lent, EmptyPart, secondIf, named, IsEarlier}
 use Rattle.comparing.proofs.Numbers.{which-first, which-second, which-equal, only-second, only-equal}
 use Rattle.comparing.proofs.Handed.{order, refused}
 use Rattle.comparing.proofs.which.which.Kinds as which
@@ -84,6 +86,10 @@ module _ (κs : Lfts 3) (a : Dens κs which.ps) (r : Compared) (s : AtExit (ende
 
 -- ---- Earlier
 
+empty-is-no-strip : (counts : List ℕ) → IsStock counts → IsStrip counts [] → ⊥
+unfolding count
+empty-is-no-strip counts stock strip = omega (arith, strip .amounts 0 (stock .some), stock .each 0 (stock .some))
+
 -- any slice r that the contract allows for a stock and two lent strips
 module _ (κs : Lfts 2) (a : Dens κs earlier.ps) (r : Lent) (s : AtExit (endedOf 2 earlier.ps earlier.r) κs) (h : earlier-reads.Post κs a r s) where
   abbrev stock : List ℕ
@@ -124,6 +130,17 @@ module _ (κs : Lfts 2) (a : Dens κs earlier.ps) (r : Lent) (s : AtExit (endedO
 
   pub earlier-first : first-no .0 ≡ 0 → placeIn (book stock) (lent-first .now) ≤ placeIn (book stock) (lent-second .now) → r ≡ lent-first
   earlier-first f l = earlier-chosen f ∙ rw (ne-eqb (order stock lent-first lent-second) 2 (λ e. omega (arith, only-second _ _ e)))
+
+  -- an empty slice was refused
+  pub earlier-shows : r .now ≡ [] → first-no .0 ≡ 0 → ⊥
+  earlier-shows none f = go (eqb (order stock lent-first lent-second) 2) (earlier-chosen f)
+    where
+      strips : IsStock stock × IsStrip stock (lent-first .now) × IsStrip stock (lent-second .now)
+      strips = accepted-pair stock (lent-first .now) (lent-second .now) f
+
+      go : (b : Bool) → r ≡ secondIf b lent-first lent-second → ⊥
+      go true e = empty-is-no-strip stock (strips .0) (rw (sym none, e) (strips .2))
+      go false e = empty-is-no-strip stock (strips .0) (rw (sym none, e) (strips .1))
 
 -- two slices that the contract allows for one input are the same: they start at one place and hold the same blocks
 pub earlier-one-slice : (κs : Lfts 2) (a : Dens κs earlier.ps) (x y : Lent) (s t : AtExit (endedOf 2 earlier.ps earlier.r) κs)
