@@ -28,6 +28,7 @@ use Rattle.numbering.proofs.strip.strip.Reads as strip-reads
 use Rattle.comparing.specs.declared.which.Compared.{Compared}
 use Rattle.comparing.specs.Answers.{Lent, EmptyPart, whichAnswer}
 use Rattle.comparing.proofs.Theorems.{which-refused-zero, earlier-refused}
+pub use Rattle.comparing.proofs.Theorems.{earlier-shows}
 use Rattle.comparing.proofs.which.which.Kinds as which
 use Rattle.comparing.proofs.which.which.Reads as which-reads
 use Rattle.comparing.proofs.earlier.earlier.Kinds as earlier
@@ -101,7 +102,8 @@ pub strip-refuses : (κs : Lfts 2) (a : Dens κs strip.ps) (r : Refusal) (s : At
 unfolding stripAnswer
 strip-refuses κs a r s h = record { named = h .0; left = strip-right κs a r s h .kept }
 
--- ---- Which: 1, 2, 3; 4, 5, 6 of the first strip, then of the second. Earlier is refused alike: then it is the empty part at the start of the first lent strip
+-- ---- Which: 1, 2, 3; 4, 5, 6 of the first strip, then of the second. Earlier is refused alike: then it is the empty part at the start of the first lent strip,
+-- and only then is it empty (`earlier-shows`)
 
 pub which-refuses : (κs : Lfts 3) (a : Dens κs which.ps) (r : Compared) (s : AtExit (endedOf 3 which.ps which.r) κs) → which-reads.Post κs a r s
     → Refuses (pairNos (a .0 .now) (a .1 .0 .now) (a .1 .1 .0 .now)) (r .refusal) (r .which ≡ 0)
