@@ -2,7 +2,7 @@
 -- book's, and each undoes the other.
 use Prim.Native.Nat.{ℕ, suc, _+_, _-_, _^_, _<_}
 use mathlib.Core.Path.{_≡_}
-use mathlib.Core.Bool.{false}
+use mathlib.Core.Bool.{false, cond}
 use mathlib.Core.List.{List, [], _∷_, _++_, map, reverse}
 use lib.Dec.{leb}
 use lib.ListN.{length, getD, replicate}
@@ -11,7 +11,7 @@ use borrow.Fn.Kinds.{Dens, endedOf}
 use denote.Triple.Clauses.{AtExit}
 use Rattle.rules.specs.Stock.{sum, total, IsStock, IsStrip}
 use Rattle.rules.specs.Book.{K, R, after, E, lay, snake, book, placeIn}
-use Rattle.rules.proofs.Equations.{onlyIf, E-all-K, E-all-R, E-rule}
+use Rattle.rules.proofs.Equations.{E-all-K, E-all-R, E-rule}
 use Rattle.rules.proofs.Strips.{book-one, book-rule}
 use Rattle.stock.specs.declared.Refusal.{Refusal}
 use Rattle.counting.specs.declared.count.Counted.{Counted}
@@ -42,7 +42,7 @@ pub all-rest : (a : ℕ) → E a a ≡ replicate a R ∷ []
 all-rest = E-all-R
 
 pub three-parts : (a b : ℕ) → 0 < b → b < a
-    → E a b ≡ after (K ∷ []) (E (a - 1) b) ++ (after (K ∷ R ∷ []) (reverse (E (a - 2) (b - 1))) ++ onlyIf (leb 2 b) (after (R ∷ R ∷ []) (E (a - 2) (b - 2))))
+    → E a b ≡ after (K ∷ []) (E (a - 1) b) ++ (after (K ∷ R ∷ []) (reverse (E (a - 2) (b - 1))) ++ cond (leb 2 b) (after (R ∷ R ∷ []) (E (a - 2) (b - 2))) [])
 three-parts = E-rule
 
 pub one-kind : (c : ℕ) → book (c ∷ []) ≡ replicate c 1 ∷ []

@@ -1,7 +1,7 @@
 -- Proofs. The three equations of E, as document 01 writes them.
 use Prim.Native.Nat.{ℕ, zero, suc, _-_, _<_}
 use mathlib.Core.Path.{_≡_, refl, ap, _∙_}
-use mathlib.Core.Bool.{Bool, true, false}
+use mathlib.Core.Bool.{cond}
 use mathlib.Core.List.{List, [], _∷_, _++_, reverse, append-nil}
 use native.Mathlib.Nat.{add-zero}
 use native.Mathlib.Omega.{arith}
@@ -25,13 +25,9 @@ E-all-K (suc (suc a)) = refl
 pub E-all-R : (a : ℕ) → E a a ≡ replicate a R ∷ []
 E-all-R a = only (E a a) (replicate a R) (listed-E a a .size ∙ binom-self a) (simp (add-zero, append-nil) at (E-first a 0))
 
-abbrev pub onlyIf : Bool → List Word → List Word
-onlyIf true l = l
-onlyIf false l = []
-
 -- E(a, b) for 0 < b < a, as the document writes it: the third part only if b is at least 2
 pub E-rule : (a b : ℕ) → 0 < b → b < a
-    → E a b ≡ after (K ∷ []) (E (a - 1) b) ++ (after (K ∷ R ∷ []) (reverse (E (a - 2) (b - 1))) ++ onlyIf (leb 2 b) (after (R ∷ R ∷ []) (E (a - 2) (b - 2))))
+    → E a b ≡ after (K ∷ []) (E (a - 1) b) ++ (after (K ∷ R ∷ []) (reverse (E (a - 2) (b - 1))) ++ cond (leb 2 b) (after (R ∷ R ∷ []) (E (a - 2) (b - 2))) [])
 unfolding E
 E-rule a zero h l = absurd (omega arith)
 E-rule zero (suc b) h l = absurd (omega arith)
