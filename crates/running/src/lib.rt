@@ -1,3 +1,2 @@
 // Running: moving a strip on until a lent list of moves is full or the last strip is reached.
-mod finding;
 pub mod run;

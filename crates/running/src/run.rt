@@ -1,9 +1,9 @@
 // Run: the strip moves on until the lent list has no room left or the last strip is reached.
-use crate::finding::find_on;
 use stock::Refusal;
 use walker::Walker;
 use walker::check::check_walker;
 use walker::turning::turned_above;
+use walking::finding::find;
 ghost use mathlib.Core.Path.{_≡_};
 ghost use Rattle.rules.specs.Refusals.{fine};
 ghost use Rattle.walking.specs.Checked.{Checked};
@@ -40,7 +40,7 @@ fn run_on(stock: &[u16], strip: &mut [u8], walker: Walker, list: &mut [u8]) -> R
     let mut walker = walker;
     let mut moves: usize = 0;
     loop {
-        let m = find_on(stock, strip, walker);
+        let m = find(stock, strip, walker, false, true);
         let kind = m.kind;
         let low = m.low;
         let high = m.high;

@@ -1,5 +1,5 @@
 -- Proofs: nobody needs to read these to know what holds.
-pub mod OneKind
+mod OneKind
 mod Beside
 pub mod OneMove
 pub mod Onward

@@ -1,4 +1,5 @@
 // Finding the move: which kind moves, and which two places change blocks.
+use left::step_left;
 use moves::Step;
 use moves::next;
 use moves::prev;
@@ -18,11 +19,14 @@ pub struct Found {
     pub high: usize,
 }
 
-// One kind's own move, on or back in the list of its patterns.
-fn step_to(word: &[u8], kind: u8, others: usize, heading: bool) -> Step
+// One kind's own move, on or back in the list of its patterns: read from the left end of the word, or by the rule's recursion.
+fn step_to(word: &[u8], kind: u8, others: usize, heading: bool, from_left: bool) -> Step
     requires { ⌜ (length (now word) ≤ 64) × (others ≡ rests kind (now word)) ⌝ }
     ensures { λ r. ⌜ r ≡ stepOf heading kind (now (word .entry)) ⌝ }
 {
+    if from_left {
+        return step_left(word, kind, others, heading);
+    }
     if heading {
         return prev(word, kind, others);
     }
@@ -30,8 +34,9 @@ fn step_to(word: &[u8], kind: u8, others: usize, heading: bool) -> Step
 }
 
 // The move on, or back: the last kind moves if it can, and if not, a kind before it. A kind that cannot move stands whole in front of the kinds
-// below it or behind them, so that their blocks are a part of the strip, from lo to before hi.
-pub fn find(stock: &[u16], strip: &[u8], walker: Walker, back: bool) -> Found
+// below it or behind them, so that their blocks are a part of the strip, from lo to before hi. Both finders promise the same, so the flag that
+// names one of them stands in no contract.
+pub fn find(stock: &[u16], strip: &[u8], walker: Walker, back: bool, from_left: bool) -> Found
     requires { ⌜ Checked (now stock) (now strip) walker ⌝ }
     ensures { λ r. ⌜ r ≡ found (length (now (stock .entry))) (moveOf back (now (stock .entry)) (now (strip .entry))) ⌝ }
 {
@@ -43,7 +48,13 @@ pub fn find(stock: &[u16], strip: &[u8], walker: Walker, back: bool) -> Found
         j -= 1;
         let amount = stock[j] as usize;
         let heading = walker.back[j] != back;
-        let m = step_to(&strip[lo..hi], kind as u8, hi - lo - amount, heading);
+        let m = step_to(
+            &strip[lo..hi],
+            kind as u8,
+            hi - lo - amount,
+            heading,
+            from_left,
+        );
         if m.found {
             return Found {
                 kind,

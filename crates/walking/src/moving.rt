@@ -20,5 +20,5 @@ pub fn walk(stock: &[u16], strip: &mut [u8], walker: Walker, back: bool) -> Move
             walker,
         };
     }
-    step(stock, strip, walker, back)
+    step(stock, strip, walker, back, false)
 }

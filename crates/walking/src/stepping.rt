@@ -8,11 +8,11 @@ ghost use mathlib.Core.Path.{_≡_};
 ghost use Rattle.walking.specs.Checked.{Checked, stepAnswer, stepStrip};
 
 // Moves the strip on, or back: exchanges two blocks and turns the kinds above the one that moved. No move: refusal 9.
-pub fn step(stock: &[u16], strip: &mut [u8], walker: Walker, back: bool) -> Moved
+pub fn step(stock: &[u16], strip: &mut [u8], walker: Walker, back: bool, from_left: bool) -> Moved
     requires { ⌜ Checked (now stock) (now strip) walker ⌝ }
     ensures { λ r. ⌜ (r ≡ stepAnswer back (now (stock .entry)) (now (strip .entry)) walker) × (now (strip .exit) ≡ stepStrip back (now (stock .entry)) (now (strip .entry))) ⌝ }
 {
-    let m = find(stock, strip, walker, back);
+    let m = find(stock, strip, walker, back, from_left);
     let kind = m.kind;
     let low = m.low;
     let high = m.high;

@@ -36,26 +36,26 @@ returns c =
     let f = c .before .before in
     let b = f .before .before in
     let p = b .before .before .before .before .pre in
-    stop _ _ _ _ _ _ _ (p .stock) (p .strip) (b .loop .inv) _ (f .find-on .ensures) (c .before .if1 .taken) _ (c .answered .ensures)
+    stop _ _ _ _ _ _ _ (p .stock) (p .strip) (b .loop .inv) _ (f .find .ensures) (c .before .if1 .taken) _ (c .answered .ensures)
 
 returns-2 : tie.Need-returns-2 Inv-loop μ-loop
 returns-2 c =
     let f = c .before .before .before in
     let b = f .before .before in
     let p = b .before .before .before .before .pre in
-    full _ _ _ _ _ _ _ (p .stock) (p .strip) (b .loop .inv) _ (f .find-on .ensures) (c .before .before .if1 .left) (c .before .if2 .taken) _ (c .answered2 .ensures)
+    full _ _ _ _ _ _ _ (p .stock) (p .strip) (b .loop .inv) _ (f .find .ensures) (c .before .before .if1 .left) (c .before .if2 .taken) _ (c .answered2 .ensures)
 
 -- a move is found, and there is room for it
 module _ (e : tie.Else2 Inv-loop μ-loop) where
-  found : let f = e .before .before in let b = f .before .before in let m = f .find-on .result in
+  found : let f = e .before .before in let b = f .before .before in let m = f .find .result in
       Makes false (b .before .before .before .before .args .stock .now) (b .loop .strip) (m .kind) (m .low) (m .high)
   found =
       let f = e .before .before in
       let b = f .before .before in
       let p = b .before .before .before .before .pre in
-      move _ _ _ _ _ _ _ (p .stock) (p .strip) (b .loop .inv) _ (f .find-on .ensures) (e .before .if1 .left)
+      move _ _ _ _ _ _ _ (p .stock) (p .strip) (b .loop .inv) _ (f .find .ensures) (e .before .if1 .left)
 
-  inside : let f = e .before .before in let n = length (f .before .before .loop .strip) in (f .find-on .result .low < n) × (f .find-on .result .high < n) × (n ≤ 64)
+  inside : let f = e .before .before in let n = length (f .before .before .loop .strip) in (f .find .result .low < n) × (f .find .result .high < n) × (n ≤ 64)
   inside = places-inside (ready (e .before .before .before .before)) found
 
   roomy : let b = e .before .before .before .before in 2 * b .loop .moves + 1 < length (b .loop .list)
@@ -74,7 +74,7 @@ loop-again c =
     let f = e .before .before in
     let b = f .before .before in
     let p = b .before .before .before .before .pre in
-    on _ _ _ _ _ _ _ (p .stock) (p .strip) (b .loop .inv) _ (f .find-on .ensures) (e .before .if1 .left) (e .if2 .left) _ (c .turned-above .ensures)
+    on _ _ _ _ _ _ _ (p .stock) (p .strip) (b .loop .inv) _ (f .find .ensures) (e .before .if1 .left) (e .if2 .left) _ (c .turned-above .ensures)
 
 pub run-on-spec : {M : Type 1} → statement M
 run-on-spec =

@@ -12,10 +12,10 @@ use Rattle.walking.proofs.finding.find.Statement.{statement}
 use Rattle.walking.proofs.finding.find.Tie as tie
 
 abbrev Inv-loop : tie.InvT-loop
-Inv-loop stock strip back walker lo₀ hi₀ j₀ lo hi j = Descent back stock strip j lo hi
+Inv-loop stock strip back from-left walker lo₀ hi₀ j₀ lo hi j = Descent back stock strip j lo hi
 
 abbrev μ-loop : tie.MeasureT-loop
-μ-loop stock strip back walker lo₀ hi₀ j₀ lo hi j = j
+μ-loop stock strip back from-left walker lo₀ hi₀ j₀ lo hi j = j
 
 loop-holds : tie.Need-loop-holds Inv-loop μ-loop
 loop-holds c = start _ _ _ (c .before .before .pre .strip)
@@ -33,13 +33,13 @@ few c = let b = c .before .before .before .before in (c .before .loop .inv .kind
 step-to-requires : tie.Need-step-to-requires Inv-loop μ-loop
 step-to-requires c κs = let t = at (c .before .before .before) in (t .short, t .others)
 
-add-t25 : tie.Need-add-t25 Inv-loop μ-loop
-add-t25 c =
+add-t26 : tie.Need-add-t26 Inv-loop μ-loop
+add-t26 c =
     let b = c .before .before in
     omega (arith, at (b .before .before .before .before) .moves _ (b .step-to .ensures) (c .before .if1 .taken) .0)
 
-add-t26 : tie.Need-add-t26 Inv-loop μ-loop
-add-t26 c =
+add-t27 : tie.Need-add-t27 Inv-loop μ-loop
+add-t27 c =
     let b = c .before .before .before in
     omega (arith, at (b .before .before .before .before) .moves _ (b .step-to .ensures) (c .before .before .if1 .taken) .1)
 
@@ -89,8 +89,8 @@ find-spec =
     (λ c. c .before .before .before .before .loop .inv .order)
     (λ c. omega (arith, at (c .before .before .before) .fits))
     step-to-requires
-    add-t25
     add-t26
+    add-t27
     returns
     sub-hi
     (λ c. omega arith)

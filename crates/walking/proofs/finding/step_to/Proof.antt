@@ -8,6 +8,8 @@ step-to-spec =
     tie.close
     (tie.spec
     (λ c κs. search needs)
-    (λ c. rw (c .before .if1 .taken) (c .prev .ensures))
+    (λ c. c .step-left .ensures)
     (λ c κs. search needs)
-    (λ c. rw (c .before .if1 .left) (c .next .ensures)))
+    (λ c. rw (c .before .if2 .taken) (c .prev .ensures))
+    (λ c κs. search needs)
+    (λ c. rw (c .before .if2 .left) (c .next .ensures)))
