@@ -15,11 +15,10 @@ use Rattle.rules.proofs.Exchange.{swap}
 use Rattle.rules.proofs.Strips.{moveOf}
 use Rattle.walker.specs.declared.Walker.{Walker}
 use Rattle.walker.specs.Walkers.{walkerOf}
-use Rattle.walker.specs.Turned.{turnedAbove}
 use Rattle.walking.specs.declared.Moved.{Moved}
 use Rattle.walking.specs.declared.finding.Found.{Found}
-use Rattle.walking.specs.Answers.{left, asMoved}
-use Rattle.walking.specs.Checked.{Checked, found}
+use Rattle.walking.specs.Answers.{left}
+use Rattle.walking.specs.Checked.{Checked, found, asMade, stepAnswer, stepStrip}
 use Rattle.walking.proofs.OneMove.{Makes, found-none, found-some, moves}
 use Rattle.walking.proofs.Onward.{none-left, some-left}
 use Rattle.walking.proofs.Walked as walks
@@ -88,18 +87,19 @@ module _ (counts s list₀ t : List ℕ) (w : Walker) (list : List ℕ) (i : ℕ
       full l x a = all x false a (omega (arith, more)) (sym (ne-eqb i (left counts s) (omega (arith, more))))
 
       -- one move more
-      pub on : (i ≡ length list₀ / 2 → ⊥) → (u : Walker) → u ≡ turnedAbove (m .kind) (length counts) w
-          → Running counts s list₀ (swap 0 t (m .low) (m .high)) u (set (set list (2 * i) (m .low + 1)) (2 * i + 1) (m .high + 1)) (i + 1)
+      pub on : (i ≡ length list₀ / 2 → ⊥) → (r : Moved) (u : List ℕ) → (r ≡ asMade m (length counts) w) × (u ≡ swap 0 t (m .low) (m .high))
+          → Running counts s list₀ u (r .walker) (set (set list (2 * i) (r .low)) (2 * i + 1) (r .high)) (i + 1)
       unfolding movesFrom
-      on l u is-turned =
-          let r : Moved = asMoved fine ((m .low + 1) ∷ (m .high + 1) ∷ []) u in
-          let makes = moves false counts t w checked (m .kind) (m .low) (m .high) u move is-turned in
-          let p = walks.shown counts s t w i k h (v .walked) r (swap 0 t (m .low) (m .high)) makes refl in
-          let n : length (movesFrom counts s i ++ ((m .low + 1) ∷ (m .high + 1) ∷ [])) ≡ 2 * suc i = length-append (movesFrom counts s i) ((m .low + 1) ∷ (m .high + 1) ∷ []) ∙ omega (arith, v .long) in
+      on l r u made =
+          let makes = moves false counts t w checked m move in
+          let step : (r ≡ stepAnswer false counts t w) × (u ≡ stepStrip false counts t) = (made .0 ∙ makes .0, made .1 ∙ makes .1) in
+          let none : r .refusal .no ≡ 0 = ap (λ (r : Moved). r .refusal .no) (made .0) in
+          let p = walks.shown counts s t w i k h (v .walked) r u step none in
+          let n : length (movesFrom counts s i ++ (r .low ∷ r .high ∷ [])) ≡ 2 * suc i = length-append (movesFrom counts s i) (r .low ∷ r .high ∷ []) ∙ omega (arith, v .long) in
           let d : 2 * i + 2 ≡ 2 * suc i = omega arith in
           record {
-            walked = walks.on counts s t w i k h (v .walked) r (swap 0 t (m .low) (m .high)) makes refl;
+            walked = walks.on counts s t w i k h (v .walked) r u step none;
             room = omega (arith, v .room);
             long = rw (add-one i, p) n;
-            listed = rw (add-one i, v .listed, p, append-assoc (movesFrom counts s i) ((m .low + 1) ∷ (m .high + 1) ∷ []) _) (write-two (movesFrom counts s i) list₀ (2 * i) (m .low + 1) (m .high + 1) (v .long) (omega (arith, v .room)) ∙ rw d);
+            listed = rw (add-one i, v .listed, p, append-assoc (movesFrom counts s i) (r .low ∷ r .high ∷ []) _) (write-two (movesFrom counts s i) list₀ (2 * i) (r .low) (r .high) (v .long) (omega (arith, v .room)) ∙ rw d);
           }

@@ -2,8 +2,8 @@
 use stock::Refusal;
 use walker::Walker;
 use walker::check::check_walker;
-use walker::turning::turned_above;
 use walking::finding::find;
+use walking::stepping::make;
 ghost use mathlib.Core.Path.{_≡_};
 ghost use Rattle.rules.specs.Refusals.{fine};
 ghost use Rattle.walking.specs.Checked.{Checked};
@@ -42,21 +42,17 @@ fn run_on(stock: &[u16], strip: &mut [u8], walker: Walker, list: &mut [u8]) -> R
     loop {
         let m = find(stock, strip, walker, false, true);
         let kind = m.kind;
-        let low = m.low;
-        let high = m.high;
         if kind == 0 {
             return answered(moves, true, walker);
         }
         if moves == room {
             return answered(moves, false, walker);
         }
-        let block = strip[low];
-        strip[low] = strip[high];
-        strip[high] = block;
-        list[2 * moves] = (low + 1) as u8;
-        list[2 * moves + 1] = (high + 1) as u8;
-        let turned = turned_above(walker, kind, stock.len());
-        walker = turned;
+        let made = make(stock, strip, walker, m);
+        list[2 * moves] = made.low;
+        list[2 * moves + 1] = made.high;
+        let next = made.walker;
+        walker = next;
         moves += 1;
     }
 }

@@ -19,7 +19,7 @@ use Rattle.walker.specs.Turned.{turnedAbove}
 use Rattle.walker.proofs.Turns.{move-turns}
 use Rattle.walking.specs.declared.finding.Found.{Found}
 use Rattle.walking.specs.Answers.{beside, endNo, asMoved}
-use Rattle.walking.specs.Checked.{Checked, found, stepAnswer, stepStrip}
+use Rattle.walking.specs.Checked.{Checked, found, asMade, stepAnswer, stepStrip}
 use Rattle.walking.proofs.Beside.{Outcome, outcome}
 
 -- the move of kind j that exchanges places low and high, from 0, and what it leads to
@@ -80,9 +80,10 @@ module _ (d : Bool) (counts s : List ℕ) (h : IsStrip counts s) where
     pub found-some : (m .kind ≡ 0 → ⊥) → Makes d counts s (m .kind) (m .low) (m .high)
     found-some = tells-some (moveOf d counts s) m is (outcome counts s h d)
 
--- the places that a move exchanges stand in the strip, which has at most 64 blocks
-pub places-inside : {d : Bool} {counts s : List ℕ} {w : Walker} {j low high : ℕ} → Checked counts s w → Makes d counts s j low high → (low < length s) × (high < length s) × (length s ≤ 64)
-places-inside {d} {counts} {s} c m = (omega (arith, m .order, m .inside), m .inside, omega (arith, strip-sum counts s (c .strip), c .stock .short))
+-- a move that was found can be made: its places stand in the strip, which has at most 64 blocks
+pub can-be-made : {d : Bool} {counts s : List ℕ} {w : Walker} {j low high : ℕ} → Checked counts s w → Makes d counts s j low high
+    → (j ≤ length counts) × (length counts ≤ 16) × (low < length s) × (high < length s) × (length s ≤ 64)
+can-be-made {d} {counts} {s} c m = (m .kinds, c .stock .few, omega (arith, m .order, m .inside), m .inside, omega (arith, strip-sum counts s (c .strip), c .stock .short))
 
 -- ---- what the step answers
 
@@ -91,7 +92,7 @@ module _ (d : Bool) (counts s : List ℕ) (w : Walker) where
   unfolding stepAnswer stepStrip
   stays e = rw e (refl, refl)
 
-  pub moves : Checked counts s w → (j low high : ℕ) (v : Walker) → Makes d counts s j low high → v ≡ turnedAbove j (length counts) w
-      → (asMoved fine ((low + 1) ∷ (high + 1) ∷ []) v ≡ stepAnswer d counts s w) × (swap 0 s low high ≡ stepStrip d counts s)
+  pub moves : Checked counts s w → (m : Found) → Makes d counts s (m .kind) (m .low) (m .high)
+      → (asMade m (length counts) w ≡ stepAnswer d counts s w) × (swap 0 s (m .low) (m .high) ≡ stepStrip d counts s)
   unfolding stepAnswer stepStrip
-  moves c j low high v m e = rw (m .allowed, m .shown, e, c .walker) (ap (asMoved fine ((low + 1) ∷ (high + 1) ∷ [])) (m .walker), m .strip)
+  moves c m k = rw (k .allowed, k .shown, c .walker) (ap (asMoved fine ((m .low + 1) ∷ (m .high + 1) ∷ [])) (k .walker), k .strip)

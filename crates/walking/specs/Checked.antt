@@ -1,15 +1,16 @@
 -- What the functions behind the calls promise of a strip that is checked. No open call's contract cites it, so nothing here is to be believed.
-use Prim.Native.Nat.{ℕ, _-_}
+use Prim.Native.Nat.{ℕ, _+_, _-_}
 use mathlib.Core.Path.{_≡_}
 use mathlib.Core.Bool.{Bool}
 use mathlib.Core.Option.{Option, none, some}
-use mathlib.Core.List.{List, []}
+use mathlib.Core.List.{List, [], _∷_}
 use Rattle.rules.specs.Stock.{IsStock, IsStrip}
 use Rattle.rules.specs.Neighbours.{places}
-use Rattle.rules.specs.Refusals.{unless}
+use Rattle.rules.specs.Refusals.{fine, unless}
 use Rattle.rules.proofs.Walk.{Move}
 use Rattle.walker.specs.declared.Walker.{Walker}
 use Rattle.walker.specs.Walkers.{walkerOf}
+use Rattle.walker.specs.Turned.{turnedAbove}
 use Rattle.walking.specs.declared.Moved.{Moved}
 use Rattle.walking.specs.declared.finding.Found.{Found}
 use Rattle.walking.specs.Answers.{beside, endNo, asMoved}
@@ -24,6 +25,10 @@ pub record Checked (counts s : List ℕ) (w : Walker) : Type 0 where
 abbrev pub found : ℕ → Option Move → Found
 found k none = record { kind = 0; low = 0; high = 0 }
 found k (some m) = record { kind = k - m .skip; low = m .p; high = m .q }
+
+-- the answer of a move that was found, of k kinds, and its walker from the one before
+abbrev pub asMade : Found → ℕ → Walker → Moved
+asMade m k w = asMoved fine ((m .low + 1) ∷ (m .high + 1) ∷ []) (turnedAbove (m .kind) k w)
 
 -- a move on, or at true back, that only refusal 9 can refuse: its answer, and the strip that it leaves
 unfoldable pub stepAnswer : Bool → List ℕ → List ℕ → Walker → Moved

@@ -1,33 +1,27 @@
-// One move on a checked strip.
+// One move on a checked strip: finding it, and making it.
 use crate::Moved;
+use crate::finding::Found;
 use crate::finding::find;
 use stock::Refusal;
 use walker::Walker;
 use walker::turning::turned_above;
+ghost use Prim.Native.Nat.{_≤_, _<_};
 ghost use mathlib.Core.Path.{_≡_};
-ghost use Rattle.walking.specs.Checked.{Checked, stepAnswer, stepStrip};
+ghost use lib.ListN.{length};
+ghost use Rattle.rules.proofs.Exchange.{swap};
+ghost use Rattle.walking.specs.Checked.{Checked, asMade, stepAnswer, stepStrip};
 
-// Moves the strip on, or back: exchanges two blocks and turns the kinds above the one that moved. No move: refusal 9.
-pub fn step(stock: &[u16], strip: &mut [u8], walker: Walker, back: bool, from_left: bool) -> Moved
-    requires { ⌜ Checked (now stock) (now strip) walker ⌝ }
-    ensures { λ r. ⌜ (r ≡ stepAnswer back (now (stock .entry)) (now (strip .entry)) walker) × (now (strip .exit) ≡ stepStrip back (now (stock .entry)) (now (strip .entry))) ⌝ }
+// Makes a move that was found: exchanges two blocks and turns the kinds above the one that moved.
+pub fn make(stock: &[u16], strip: &mut [u8], walker: Walker, m: Found) -> Moved
+    requires { ⌜ (m .kind ≤ length (now stock)) × (length (now stock) ≤ 16) × (m .low < length (now strip)) × (m .high < length (now strip)) × (length (now strip) ≤ 64) ⌝ }
+    ensures { λ r. ⌜ (r ≡ asMade m (length (now (stock .entry))) walker) × (now (strip .exit) ≡ swap 0 (now (strip .entry)) (m .low) (m .high)) ⌝ }
 {
-    let m = find(stock, strip, walker, back, from_left);
-    let kind = m.kind;
     let low = m.low;
     let high = m.high;
-    if kind == 0 {
-        return Moved {
-            refusal: Refusal { no: 9, place: 0 },
-            low: 0,
-            high: 0,
-            walker,
-        };
-    }
     let block = strip[low];
     strip[low] = strip[high];
     strip[high] = block;
-    let turned = turned_above(walker, kind, stock.len());
+    let turned = turned_above(walker, m.kind, stock.len());
     let first = (low + 1) as u8;
     let second = (high + 1) as u8;
     Moved {
@@ -36,4 +30,22 @@ pub fn step(stock: &[u16], strip: &mut [u8], walker: Walker, back: bool, from_le
         high: second,
         walker: turned,
     }
+}
+
+// Moves the strip on, or back. No move: refusal 9.
+pub fn step(stock: &[u16], strip: &mut [u8], walker: Walker, back: bool, from_left: bool) -> Moved
+    requires { ⌜ Checked (now stock) (now strip) walker ⌝ }
+    ensures { λ r. ⌜ (r ≡ stepAnswer back (now (stock .entry)) (now (strip .entry)) walker) × (now (strip .exit) ≡ stepStrip back (now (stock .entry)) (now (strip .entry))) ⌝ }
+{
+    let m = find(stock, strip, walker, back, from_left);
+    let kind = m.kind;
+    if kind == 0 {
+        return Moved {
+            refusal: Refusal { no: 9, place: 0 },
+            low: 0,
+            high: 0,
+            walker,
+        };
+    }
+    make(stock, strip, walker, m)
 }

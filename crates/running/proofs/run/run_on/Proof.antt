@@ -1,12 +1,12 @@
 -- `running::run::run_on` meets its contract. The invariant: after so many moves the run stands at the strip that many numbers further on.
-use Prim.Native.Nat.{_+_, _*_, _-_, _≤_, _<_}
+use Prim.Native.Nat.{_+_, _*_, _-_, _<_}
 use mathlib.Core.Path.{_≡_}
 use mathlib.Core.Bool.{false}
 use native.Mathlib.Omega.{arith}
 use borrow.Author.Needs.{needs}
 use lib.ListN.{length, length-set}
 use Rattle.walking.specs.Checked.{Checked}
-use Rattle.walking.proofs.OneMove.{Makes, places-inside}
+use Rattle.walking.proofs.OneMove.{Makes, can-be-made}
 use Rattle.running.proofs.Running.{Running, start, checked, same-strip, same-list, stop, move, full, on}
 use Rattle.running.proofs.run.run_on.Statement.{statement}
 use Rattle.running.proofs.run.run_on.Tie as tie
@@ -55,26 +55,19 @@ module _ (e : tie.Else2 Inv-loop μ-loop) where
       let p = b .before .before .before .before .pre in
       move _ _ _ _ _ _ _ (p .stock) (p .strip) (b .loop .inv) _ (f .find .ensures) (e .before .if1 .left)
 
-  inside : let f = e .before .before in let n = length (f .before .before .loop .strip) in (f .find .result .low < n) × (f .find .result .high < n) × (n ≤ 64)
-  inside = places-inside (ready (e .before .before .before .before)) found
-
   roomy : let b = e .before .before .before .before in 2 * b .loop .moves + 1 < length (b .loop .list)
   roomy =
       let b = e .before .before .before .before in
       omega (arith, list-kept b, b .loop .inv .room, e .if2 .left)
 
-turned-above-requires : tie.Need-turned-above-requires Inv-loop μ-loop
-turned-above-requires c κs =
-    let e = c .before .before in
-    (found e .kinds, ready (e .before .before .before .before) .stock .few)
-
 loop-again : tie.Need-loop-again Inv-loop μ-loop
 loop-again c =
-    let e = c .before .before .before in
+    let made = c .before .before .before in
+    let e = made .before .before in
     let f = e .before .before in
     let b = f .before .before in
     let p = b .before .before .before .before .pre in
-    on _ _ _ _ _ _ _ (p .stock) (p .strip) (b .loop .inv) _ (f .find .ensures) (e .before .if1 .left) (e .if2 .left) _ (c .turned-above .ensures)
+    on _ _ _ _ _ _ _ (p .stock) (p .strip) (b .loop .inv) _ (f .find .ensures) (e .before .if1 .left) (e .if2 .left) _ _ (made .make .ensures)
 
 pub run-on-spec : {M : Type 1} → statement M
 run-on-spec =
@@ -92,20 +85,12 @@ run-on-spec =
     (λ c. strip-kept (c .before .before .before .before .before))
     (λ c. list-kept (c .before .before .before .before .before))
     returns-2
-    (λ c. omega (arith, inside (c .before)))
-    (λ c. omega (arith, inside (c .before .before)))
-    (λ c. omega (arith, inside (c .before .before)))
-    (λ c. simp length-set (omega (arith, inside (c .before .before))))
-    (λ c. omega (arith, inside (c .before .before)))
-    (λ c. omega (arith, inside (c .before .before)))
-    (λ c. omega (arith, roomy (c .before .before)))
-    (λ c. omega (arith, roomy (c .before .before)))
-    (λ c. omega (arith, inside (c .before .before)))
-    (λ c. omega (arith, inside (c .before .before)))
-    (λ c. omega (arith, roomy (c .before .before)))
-    (λ c. omega (arith, roomy (c .before .before)))
-    (λ c. simp length-set (roomy (c .before .before)))
-    turned-above-requires
-    (λ c. omega (arith, roomy (c .before .before .before)))
-    (λ c. omega (arith, roomy (c .before .before .before)))
+    (λ c κs. can-be-made (ready (c .before .before .before .before .before)) (found (c .before)))
+    (λ c. omega (arith, roomy (c .before .before .before .before)))
+    (λ c. omega (arith, roomy (c .before .before .before .before)))
+    (λ c. omega (arith, roomy (c .before .before .before .before)))
+    (λ c. omega (arith, roomy (c .before .before .before .before)))
+    (λ c. simp length-set (roomy (c .before .before .before .before)))
+    (λ c. omega (arith, roomy (c .before .before .before .before .before)))
+    (λ c. omega (arith, roomy (c .before .before .before .before .before)))
     loop-again)
