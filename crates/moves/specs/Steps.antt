@@ -1,6 +1,6 @@
 -- What a finder of moves answers. No open call's contract cites it, so nothing here is to be believed.
 use Prim.Native.Nat.{ℕ}
-use mathlib.Core.Bool.{Bool, true, false}
+use mathlib.Core.Bool.{Bool, true, false, cond}
 use mathlib.Core.Option.{Option, none, some}
 use mathlib.Core.List.{List}
 use Rattle.rules.proofs.Moves.{moveE}
@@ -18,10 +18,6 @@ stepOf back j w = step (moveE back (pattern j w))
 
 -- ---- of a part of the code
 
-abbrev pub pickStep : Bool → Step → Step → Step
-pickStep true s t = s
-pickStep false s t = t
-
 -- a step that was found, or else the one that exchanges these places
 unfoldable pub orPlaces : Step → ℕ → ℕ → Step
-orPlaces s low high = pickStep (s .found) s (step (some (low, high)))
+orPlaces s low high = cond (s .found) s (step (some (low, high)))
