@@ -17,7 +17,8 @@ use Rattle.rules.proofs.Numbers.{odd-rest}
 use Rattle.rules.proofs.Neighbours.{lastTo, last-strip}
 use Rattle.stock.specs.declared.Refusal.{Refusal}
 use Rattle.counting.proofs.Marked.{total-30-31, total-30-31-1}
-use Rattle.numbering.proofs.Theorems.{StripRight, strip-right}
+use Rattle.numbering.proofs.Right.{StripRight}
+use Rattle.numbering.proofs.Theorems.{strip-right}
 use Rattle.numbering.proofs.strip.strip.Kinds as strip
 use Rattle.numbering.proofs.strip.strip.Reads as strip-reads
 
@@ -52,6 +53,6 @@ pub strip-30-31-1 : (κs : Lfts 2) (a : Dens κs strip.ps) (r : Refusal) (s : At
     → a .0 .now ≡ marked → a .1 .0 ≡ 14428278950913093727 → length (a .1 .1 .0 .now) ≡ 62 → (r .no ≡ 0) × (s .1 .1 .0 .now ≡ markedLast)
 unfolding sum
 strip-30-31-1 κs a r s h e f l =
-    let right : StripRight marked 14428278950913093727 (a .1 .1 .0 .now) (s .1 .1 .0 .now) r = rw (e, f) at (strip-right κs a r s h) in
+    let right : StripRight (book marked) marked 14428278950913093727 (a .1 .1 .0 .now) (s .1 .1 .0 .now) (r .no) = rw (e, f) at (strip-right κs a r s h) in
     let none = right .accepted marked-stock l (rw total-30-31-1 (omega arith)) (rw total-30-31-1 (omega arith)) in
     (none, right .written none ∙ marked-last)

@@ -1,6 +1,7 @@
 // Strip: the strip of a number in the book of a stock.
 use crate::strips::strip_of;
 use choose::table;
+use counting::check_number;
 use counting::total_of;
 use stock::Refusal;
 use stock::check_buffer;
@@ -18,12 +19,11 @@ pub fn strip(stock: &[u16], number: u64, buffer: &mut [u8]) -> Refusal
     }
     let rows = table();
     let strips = total_of(&rows, stock);
-    if strips == 0 {
-        return Refusal { no: 7, place: 0 };
-    }
-    if strips <= number {
-        return Refusal { no: 8, place: 0 };
+    let held = check_number(stock, strips, number);
+    let none = held.no;
+    if none != 0 {
+        return held;
     }
     strip_of(&rows, stock, number, buffer);
-    Refusal { no: 0, place: 0 }
+    held
 }

@@ -49,12 +49,12 @@ total-factorials = from-end (λ counts. total counts * factorials counts ≡ fac
 
 -- ---- as a quotient
 
-factorial-some : (n : ℕ) → 0 < factorial n
+pub factorial-some : (n : ℕ) → 0 < factorial n
 unfolding factorial
 factorial-some zero = omega arith
 factorial-some (suc n) = mul-pos (omega arith) (factorial-some n)
 
-factorials-some : (counts : List ℕ) → 0 < factorials counts
+pub factorials-some : (counts : List ℕ) → 0 < factorials counts
 unfolding factorials
 factorials-some [] = omega arith
 factorials-some (c ∷ counts) = mul-pos (factorial-some c) (factorials-some counts)
