@@ -1,0 +1,2 @@
+-- TO BE BELIEVED: dictionary order, and the book's strips in that order.
+pub mod Dictionary

@@ -1,0 +1,3 @@
+-- TO BE BELIEVED: what the calls on dictionary numbers answer.
+pub mod Answers
+pub mod Lists

@@ -1,0 +1,14 @@
+// Drawers: the calls on dictionary numbers, as the archive's old drawers have them; one file for each, and one for conversion both ways.
+pub mod convert;
+pub mod next;
+pub mod number;
+pub mod strip;
+
+use stock::Refusal;
+
+// What the calls that give a number answer.
+#[repr(C)]
+pub struct Filed {
+    pub refusal: Refusal,
+    pub number: u64,
+}
