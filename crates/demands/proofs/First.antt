@@ -25,6 +25,19 @@ use Rattle.numbering.proofs.number.number.Kinds as number
 use Rattle.numbering.proofs.number.number.Reads as number-reads
 use Rattle.numbering.proofs.strip.strip.Kinds as strip
 use Rattle.numbering.proofs.strip.strip.Reads as strip-reads
+use Rattle.drawers.specs.declared.Filed.{Filed}
+use Rattle.drawers.specs.Answers.{dictionaryNumberAnswer, dictionaryStripAnswer, dictionaryNextNos, dictionaryNextAnswer, convertNos, convertAnswer}
+use Rattle.drawers.proofs.Theorems.{dictionary-number-right, dictionary-strip-right, dictionary-next-right, to-dictionary-right, to-book-right}
+use Rattle.drawers.proofs.number.dictionary_number.Kinds as dictionary-number
+use Rattle.drawers.proofs.number.dictionary_number.Reads as dictionary-number-reads
+use Rattle.drawers.proofs.strip.dictionary_strip.Kinds as dictionary-strip
+use Rattle.drawers.proofs.strip.dictionary_strip.Reads as dictionary-strip-reads
+use Rattle.drawers.proofs.next.dictionary_next.Kinds as dictionary-next
+use Rattle.drawers.proofs.next.dictionary_next.Reads as dictionary-next-reads
+use Rattle.drawers.proofs.convert.to_dictionary.Kinds as to-dictionary
+use Rattle.drawers.proofs.convert.to_dictionary.Reads as to-dictionary-reads
+use Rattle.drawers.proofs.convert.to_book.Kinds as to-book
+use Rattle.drawers.proofs.convert.to_book.Reads as to-book-reads
 use Rattle.comparing.specs.declared.which.Compared.{Compared}
 use Rattle.comparing.specs.Answers.{Lent, EmptyPart, whichAnswer}
 use Rattle.comparing.proofs.Theorems.{which-refused-zero, earlier-refused}
@@ -101,6 +114,37 @@ pub strip-refuses : (κs : Lfts 2) (a : Dens κs strip.ps) (r : Refusal) (s : At
     → Refuses (byNumberNos (a .0 .now) (a .1 .0) (a .1 .1 .0 .now)) r (s .1 .1 .0 .now ≡ a .1 .1 .0 .now)
 unfolding stripAnswer
 strip-refuses κs a r s h = record { named = h .0; left = strip-right κs a r s h .kept }
+
+-- ---- the calls on dictionary numbers. Number and strip: as Number and Strip
+
+pub dictionary-number-refuses : (κs : Lfts 2) (a : Dens κs dictionary-number.ps) (r : Filed) (s : AtExit (endedOf 2 dictionary-number.ps dictionary-number.r) κs) → dictionary-number-reads.Post κs a r s
+    → Refuses (numberNos (a .0 .now) (a .1 .0 .now)) (r .refusal) (r .number ≡ 0)
+unfolding dictionaryNumberAnswer
+dictionary-number-refuses κs a r s h = record { named = ap (λ (r : Filed). r .refusal) h; left = dictionary-number-right κs a r s h .refused-zero }
+
+pub dictionary-strip-refuses : (κs : Lfts 2) (a : Dens κs dictionary-strip.ps) (r : Refusal) (s : AtExit (endedOf 2 dictionary-strip.ps dictionary-strip.r) κs) → dictionary-strip-reads.Post κs a r s
+    → Refuses (byNumberNos (a .0 .now) (a .1 .0) (a .1 .1 .0 .now)) r (s .1 .1 .0 .now ≡ a .1 .1 .0 .now)
+unfolding dictionaryStripAnswer
+dictionary-strip-refuses κs a r s h = record { named = h .0; left = dictionary-strip-right κs a r s h .kept }
+
+-- the next strip: 1 to 6, 9. The strip stays
+
+pub dictionary-next-refuses : (κs : Lfts 2) (a : Dens κs dictionary-next.ps) (r : Refusal) (s : AtExit (endedOf 2 dictionary-next.ps dictionary-next.r) κs) → dictionary-next-reads.Post κs a r s
+    → Refuses (dictionaryNextNos (a .0 .now) (a .1 .0 .now)) r (s .1 .0 .now ≡ a .1 .0 .now)
+unfolding dictionaryNextAnswer
+dictionary-next-refuses κs a r s h = record { named = h .0; left = dictionary-next-right κs a r s h .kept }
+
+-- conversion: 1, 2, 3, 7, 8
+
+pub to-dictionary-refuses : (κs : Lfts 1) (a : Dens κs to-dictionary.ps) (r : Filed) (s : AtExit (endedOf 1 to-dictionary.ps to-dictionary.r) κs) → to-dictionary-reads.Post κs a r s
+    → Refuses (convertNos (a .0 .now) (a .1 .0)) (r .refusal) (r .number ≡ 0)
+unfolding convertAnswer
+to-dictionary-refuses κs a r s h = record { named = ap (λ (r : Filed). r .refusal) h; left = to-dictionary-right κs a r s h .refused-zero }
+
+pub to-book-refuses : (κs : Lfts 1) (a : Dens κs to-book.ps) (r : Filed) (s : AtExit (endedOf 1 to-book.ps to-book.r) κs) → to-book-reads.Post κs a r s
+    → Refuses (convertNos (a .0 .now) (a .1 .0)) (r .refusal) (r .number ≡ 0)
+unfolding convertAnswer
+to-book-refuses κs a r s h = record { named = ap (λ (r : Filed). r .refusal) h; left = to-book-right κs a r s h .refused-zero }
 
 -- ---- Which: 1, 2, 3; 4, 5, 6 of the first strip, then of the second. Earlier is refused alike: then it is the empty part at the start of the first lent strip,
 -- and only then is it empty (`earlier-shows`)

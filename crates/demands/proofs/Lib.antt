@@ -1,5 +1,6 @@
--- Theorems: the demands of the customer, one file for each, and one outcome for each call.
+-- Theorems: the demands of the customer, one file for each, the change requests that ask for more, and one outcome for each call.
 pub mod First
 pub mod Second
 pub mod Third
+pub mod Drawers
 pub mod Outcomes

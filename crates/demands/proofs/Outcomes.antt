@@ -4,6 +4,7 @@
 -- The calls for C have theirs too, over their own contracts.
 pub use Rattle.counting.proofs.Theorems.{count-one-outcome, first-one-outcome}
 pub use Rattle.numbering.proofs.Theorems.{number-one-outcome, strip-one-outcome}
+pub use Rattle.drawers.proofs.Theorems.{dictionary-number-one-outcome, dictionary-strip-one-outcome, dictionary-next-one-outcome, to-dictionary-one-outcome, to-book-one-outcome}
 pub use Rattle.comparing.proofs.Theorems.{which-one-outcome, earlier-one-slice}
 pub use Rattle.measuring.proofs.Theorems.{distance-one-outcome}
 pub use Rattle.walker.proofs.Theorems.{one-outcome as open-one-outcome}
@@ -14,6 +15,8 @@ pub use Rattle.papers.proofs.Theorems.{one-outcome as same-paper-one-outcome}
 pub use Rattle.writing.proofs.Theorems.{one-outcome as write-sheet-one-outcome}
 pub use Rattle.reading.proofs.Theorems.{one-outcome as read-sheet-one-outcome, one-buffer as read-sheet-one-buffer}
 pub use Rattle.exports.proofs.Outcomes.{count-one-outcome-for-c, first-one-outcome-for-c, number-one-outcome-for-c, strip-one-outcome-for-c}
+pub use Rattle.exports.proofs.Outcomes.{dictionary-number-one-outcome-for-c, dictionary-strip-one-outcome-for-c, dictionary-next-one-outcome-for-c}
+pub use Rattle.exports.proofs.Outcomes.{to-dictionary-one-outcome-for-c, to-book-one-outcome-for-c}
 pub use Rattle.exports.proofs.Outcomes.{which-one-outcome-for-c, distance-one-outcome-for-c, same-paper-one-outcome-for-c}
 pub use Rattle.exports.proofs.Outcomes.{open-one-outcome-for-c, forward-one-outcome-for-c, back-one-outcome-for-c, run-one-outcome-for-c}
 pub use Rattle.exports.proofs.Outcomes.{write-sheet-one-outcome-for-c, read-sheet-one-outcome-for-c}

@@ -5,6 +5,7 @@ use mathlib.Core.List.{List}
 use Rattle.rules.specs.Outcome.{OneAnswer, OneOutcome}
 use Rattle.counting.proofs.Theorems.{count-one-outcome, first-one-outcome}
 use Rattle.numbering.proofs.Theorems.{number-one-outcome, strip-one-outcome}
+use Rattle.drawers.proofs.Theorems.{dictionary-number-one-outcome, dictionary-strip-one-outcome, dictionary-next-one-outcome, to-dictionary-one-outcome, to-book-one-outcome}
 use Rattle.comparing.proofs.Theorems.{which-one-outcome}
 use Rattle.measuring.proofs.Theorems.{distance-one-outcome}
 use Rattle.walker.proofs.Theorems.{one-outcome as open-one-outcome}
@@ -21,6 +22,16 @@ use Rattle.exports.proofs.nelfrupi_number.Kinds as number
 use Rattle.exports.proofs.nelfrupi_number.Reads as number-reads
 use Rattle.exports.proofs.nelfrupi_strip.Kinds as strip
 use Rattle.exports.proofs.nelfrupi_strip.Reads as strip-reads
+use Rattle.exports.proofs.nelfrupi_dictionary_number.Kinds as dictionary-number
+use Rattle.exports.proofs.nelfrupi_dictionary_number.Reads as dictionary-number-reads
+use Rattle.exports.proofs.nelfrupi_dictionary_strip.Kinds as dictionary-strip
+use Rattle.exports.proofs.nelfrupi_dictionary_strip.Reads as dictionary-strip-reads
+use Rattle.exports.proofs.nelfrupi_dictionary_next.Kinds as dictionary-next
+use Rattle.exports.proofs.nelfrupi_dictionary_next.Reads as dictionary-next-reads
+use Rattle.exports.proofs.nelfrupi_to_dictionary.Kinds as to-dictionary
+use Rattle.exports.proofs.nelfrupi_to_dictionary.Reads as to-dictionary-reads
+use Rattle.exports.proofs.nelfrupi_to_book.Kinds as to-book
+use Rattle.exports.proofs.nelfrupi_to_book.Reads as to-book-reads
 use Rattle.exports.proofs.nelfrupi_which.Kinds as which
 use Rattle.exports.proofs.nelfrupi_which.Reads as which-reads
 use Rattle.exports.proofs.nelfrupi_distance.Kinds as distance
@@ -51,6 +62,21 @@ number-one-outcome-for-c = number-one-outcome
 
 pub strip-one-outcome-for-c : OneOutcome 2 strip.ps strip.r (λ κs s. s .1 .1 .0 .now) strip-reads.Post
 strip-one-outcome-for-c = strip-one-outcome
+
+pub dictionary-number-one-outcome-for-c : OneAnswer 2 dictionary-number.ps dictionary-number.r dictionary-number-reads.Post
+dictionary-number-one-outcome-for-c = dictionary-number-one-outcome
+
+pub dictionary-strip-one-outcome-for-c : OneOutcome 2 dictionary-strip.ps dictionary-strip.r (λ κs s. s .1 .1 .0 .now) dictionary-strip-reads.Post
+dictionary-strip-one-outcome-for-c = dictionary-strip-one-outcome
+
+pub dictionary-next-one-outcome-for-c : OneOutcome 2 dictionary-next.ps dictionary-next.r (λ κs s. s .1 .0 .now) dictionary-next-reads.Post
+dictionary-next-one-outcome-for-c = dictionary-next-one-outcome
+
+pub to-dictionary-one-outcome-for-c : OneAnswer 1 to-dictionary.ps to-dictionary.r to-dictionary-reads.Post
+to-dictionary-one-outcome-for-c = to-dictionary-one-outcome
+
+pub to-book-one-outcome-for-c : OneAnswer 1 to-book.ps to-book.r to-book-reads.Post
+to-book-one-outcome-for-c = to-book-one-outcome
 
 pub which-one-outcome-for-c : OneAnswer 3 which.ps which.r which-reads.Post
 which-one-outcome-for-c = which-one-outcome

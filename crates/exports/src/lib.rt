@@ -6,6 +6,12 @@ use comparing::which::which;
 use counting::count::Counted;
 use counting::count::count;
 use counting::first::first;
+use drawers::Filed;
+use drawers::convert::to_book;
+use drawers::convert::to_dictionary;
+use drawers::next::dictionary_next;
+use drawers::number::dictionary_number;
+use drawers::strip::dictionary_strip;
 use following::Readout;
 use measuring::distance::Apart;
 use measuring::distance::distance;
@@ -30,6 +36,7 @@ ghost use mathlib.Core.Path.{_≡_};
 ghost use mathlib.Core.Bool.{true, false};
 ghost use Rattle.counting.specs.Answers.{countAnswer, firstAnswer, firstAfter};
 ghost use Rattle.numbering.specs.Answers.{numberAnswer, stripAnswer, stripAfter};
+ghost use Rattle.drawers.specs.Answers.{dictionaryNumberAnswer, dictionaryStripAnswer, dictionaryStripAfter, dictionaryNextAnswer, dictionaryNextAfter, toDictionaryAnswer, toBookAnswer};
 ghost use Rattle.comparing.specs.Answers.{whichAnswer};
 ghost use Rattle.measuring.specs.Answers.{distanceAnswer};
 ghost use Rattle.walker.specs.Answers.{openAnswer};
@@ -65,6 +72,45 @@ pub extern "C" fn nelfrupi_strip(stock: &[u16], number: u64, buffer: &mut [u8]) 
     ensures { λ r. ⌜ (r ≡ stripAnswer (now (stock .entry)) number (now (buffer .entry))) × (now (buffer .exit) ≡ stripAfter (now (stock .entry)) number (now (buffer .entry))) ⌝ }
 {
     strip(stock, number, buffer)
+}
+
+#[no_mangle]
+pub extern "C" fn nelfrupi_dictionary_number(stock: &[u16], strip: &[u8]) -> Filed
+    ensures { λ r. ⌜ r ≡ dictionaryNumberAnswer (now (stock .entry)) (now (strip .entry)) ⌝ }
+{
+    dictionary_number(stock, strip)
+}
+
+#[no_mangle]
+pub extern "C" fn nelfrupi_dictionary_strip(
+    stock: &[u16],
+    number: u64,
+    buffer: &mut [u8],
+) -> Refusal
+    ensures { λ r. ⌜ (r ≡ dictionaryStripAnswer (now (stock .entry)) number (now (buffer .entry))) × (now (buffer .exit) ≡ dictionaryStripAfter (now (stock .entry)) number (now (buffer .entry))) ⌝ }
+{
+    dictionary_strip(stock, number, buffer)
+}
+
+#[no_mangle]
+pub extern "C" fn nelfrupi_dictionary_next(stock: &[u16], strip: &mut [u8]) -> Refusal
+    ensures { λ r. ⌜ (r ≡ dictionaryNextAnswer (now (stock .entry)) (now (strip .entry))) × (now (strip .exit) ≡ dictionaryNextAfter (now (stock .entry)) (now (strip .entry))) ⌝ }
+{
+    dictionary_next(stock, strip)
+}
+
+#[no_mangle]
+pub extern "C" fn nelfrupi_to_dictionary(stock: &[u16], number: u64) -> Filed
+    ensures { λ r. ⌜ r ≡ toDictionaryAnswer (now (stock .entry)) number ⌝ }
+{
+    to_dictionary(stock, number)
+}
+
+#[no_mangle]
+pub extern "C" fn nelfrupi_to_book(stock: &[u16], number: u64) -> Filed
+    ensures { λ r. ⌜ r ≡ toBookAnswer (now (stock .entry)) number ⌝ }
+{
+    to_book(stock, number)
 }
 
 #[no_mangle]
