@@ -18,7 +18,7 @@ typedef struct {
     uint16_t stock[16];
     uint64_t moves; /* how many are made, from the first strip */
     bool numbered;  /* whether the book has fewer than 2^64 strips */
-    uint8_t first[64], strips[STRIPS][64];
+    uint8_t first[64], last[64], strips[STRIPS][64];
     uint64_t numbers[STRIPS];
     nelfrupi_walker walkers[STRIPS];
 } work;
@@ -62,7 +62,7 @@ static void by_rule(const work *w, way *v, size_t moves)
 static void by_dictionary(const work *w, way *v, size_t moves)
 {
     for (size_t i = 0; i < moves; i++) {
-        must(dictionary_next(v->strip, w->n), "the dictionary ends");
+        must(step_by_dictionary(v->strip, w->n), "the dictionary ends");
     }
 }
 
@@ -112,6 +112,62 @@ static void forwards(work *w)
         nelfrupi_moved moved = nelfrupi_forward(w->stock, w->kinds, strip, w->n, walker);
         must(moved.refusal.no == 0, "Forward refuses");
         walker = moved.walker;
+    }
+}
+
+/* ---- the calls on dictionary numbers */
+
+static void dictionary_numbers(work *w)
+{
+    for (int i = 0; i < TIMES * STRIPS; i++) {
+        w->numbers[i % STRIPS] = nelfrupi_dictionary_number(w->stock, w->kinds, w->strips[i % STRIPS], w->n).number;
+    }
+}
+
+static void plain_dictionary_numbers(work *w)
+{
+    for (int i = 0; i < TIMES * STRIPS; i++) {
+        w->numbers[i % STRIPS] = dictionary_number(w->strips[i % STRIPS], w->n);
+    }
+}
+
+static void dictionary_strips(work *w)
+{
+    for (int i = 0; i < TIMES * STRIPS; i++) {
+        nelfrupi_dictionary_strip(w->stock, w->kinds, w->numbers[i % STRIPS], w->strips[i % STRIPS], w->n);
+    }
+}
+
+static void plain_dictionary_strips(work *w)
+{
+    for (int i = 0; i < TIMES * STRIPS; i++) {
+        dictionary_strip(w->stock, w->kinds, w->numbers[i % STRIPS], w->strips[i % STRIPS], w->n);
+    }
+}
+
+/* Each of these steps on from the first strip, and leaves in w->last where it then stands. */
+
+static void dictionary_nexts(work *w)
+{
+    memcpy(w->last, w->first, w->n);
+    for (int i = 0; i < TIMES * STRIPS; i++) {
+        must(nelfrupi_dictionary_next(w->stock, w->kinds, w->last, w->n).no == 0, "the next strip is refused");
+    }
+}
+
+static void checked_nexts(work *w)
+{
+    memcpy(w->last, w->first, w->n);
+    for (int i = 0; i < TIMES * STRIPS; i++) {
+        must(checked_step_by_dictionary(w->stock, w->kinds, w->last, w->n), "the dictionary ends");
+    }
+}
+
+static void plain_nexts(work *w)
+{
+    memcpy(w->last, w->first, w->n);
+    for (int i = 0; i < TIMES * STRIPS; i++) {
+        must(step_by_dictionary(w->last, w->n), "the dictionary ends");
     }
 }
 
@@ -221,6 +277,39 @@ static void print_calls(work *w)
     printf("%9.0f%9.0f%12.2f%12.2f\n", number, strip, number / plain_number, strip / plain_strip);
 }
 
+static void print_next(work *w)
+{
+    uint8_t reached[64];
+    double next = least(dictionary_nexts, w);
+    memcpy(reached, w->last, w->n);
+    double checked = least(checked_nexts, w), plain = least(plain_nexts, w);
+    must(memcmp(reached, w->last, w->n) == 0, "the next strip and plain C come to different strips");
+    printf("%9.0f%12.2f%12.2f\n", next, next / checked, next / plain);
+}
+
+static void print_dictionary(work *w)
+{
+    printf("%-12s", w->title);
+    if (!w->numbered) {
+        printf("%9s%9s%9s%12s%12s", "-", "-", "-", "-", "-");
+        print_next(w);
+        return;
+    }
+    uint64_t given[STRIPS];
+    uint8_t lent[STRIPS][64];
+    memcpy(lent, w->strips, sizeof lent);
+    double book = least(numbers, w), number = least(dictionary_numbers, w);
+    memcpy(given, w->numbers, sizeof given);
+    double plain_number = least(plain_dictionary_numbers, w);
+    must(memcmp(given, w->numbers, sizeof given) == 0, "dictionary number and plain C give different numbers");
+    double strip = least(dictionary_strips, w);
+    must(memcmp(lent, w->strips, sizeof lent) == 0, "dictionary strip gives another strip");
+    double plain_strip = least(plain_dictionary_strips, w);
+    must(memcmp(lent, w->strips, sizeof lent) == 0, "plain C gives another strip");
+    printf("%9.0f%9.2f%9.0f%12.2f%12.2f", number, number / book, strip, number / plain_number, strip / plain_strip);
+    print_next(w);
+}
+
 int main(int count, char **arguments)
 {
     static work works[STOCKS] = {
@@ -248,6 +337,15 @@ int main(int count, char **arguments)
     printf("%-12s%9s%9s%9s%9s%12s%12s\n", "stock", "Open", "Forward", "Number", "Strip", "Number", "Strip");
     for (size_t i = 0; i < STOCKS; i++) {
         print_calls(&works[i]);
+    }
+    printf("\nA call on dictionary numbers: nanoseconds of number and strip on strips in no order, and of the next strip from the\n"
+           "first on; how many times as long number takes as the book's Number; how many times as long number and strip take\n"
+           "as plain C by the same way, which checks nothing; and the next strip as plain C that makes the same checks, and as\n"
+           "plain C that makes none.\n\n");
+    printf("%-12s%9s%9s%9s%12s%12s%9s%12s%12s\n", "stock", "number", "/ book", "strip", "number / C", "strip / C", "next",
+           "/ checked C", "/ C");
+    for (size_t i = 0; i < STOCKS; i++) {
+        print_dictionary(&works[i]);
     }
     return 0;
 }

@@ -8,6 +8,9 @@
  *   book     all strips of a stock, each once, in one fixed order. From a strip to the next, two blocks change places.
  *   number   a strip's place in its book, counted from 0. T is the number of strips in the book, so the last is T - 1.
  *   walker   the direction in which each kind moves at one strip. Each strip has one walker, which nelfrupi_open gives.
+ *   dictionary, dictionary number
+ *            the same strips as in a dictionary: of two, the first place at which they differ decides, and the lower kind
+ *            comes first. A strip's place there, counted from 0, is its dictionary number.
  *
  * LENDING
  *   A list is lent as a pointer to its first element and a length, which is a number of elements. The pointer is not
@@ -34,7 +37,8 @@
  *    7  T is 2^64 or more                                               0
  *    8  the number is T or more                                         0
  *    9  no strip follows in the book, or for going back none precedes;  0
- *       for writing a sheet, fewer strips follow than moves are asked
+ *       for writing a sheet, fewer strips follow than moves are asked;
+ *       for nelfrupi_dictionary_next, none follows in the dictionary
  *   10  the walker is not the one of the strip                          the smallest kind whose direction is wrong
  *   11  a record of a sheet is missing, unknown, out of order or cut    the record's first byte, counted from 0, or
  *       short, a strip's padding is not zero, or bytes follow the end   that of the first byte after the end
@@ -91,6 +95,32 @@ nelfrupi_numbered nelfrupi_number(const uint16_t *stock, size_t kinds, const uin
 /* Strip: writes the strip of a number. The buffer has n bytes, and what they were before is not looked at.
  * Refused: 1, 2, 3, 4, 7, 8; the buffer is then as it was. */
 nelfrupi_refusal nelfrupi_strip(const uint16_t *stock, size_t kinds, uint64_t number, uint8_t *buffer, size_t length);
+
+/* ---- the old drawers: dictionary numbers */
+
+typedef struct {
+    nelfrupi_refusal refusal;
+    uint64_t number;
+} nelfrupi_filed;
+
+/* The dictionary number of a strip.
+ * Refused: 1, 2, 3, 4, 5, 6, 7. */
+nelfrupi_filed nelfrupi_dictionary_number(const uint16_t *stock, size_t kinds, const uint8_t *strip, size_t length);
+
+/* Writes the strip of a dictionary number. The buffer has n bytes, and what they were before is not looked at.
+ * Refused: 1, 2, 3, 4, 7, 8; the buffer is then as it was. */
+nelfrupi_refusal nelfrupi_dictionary_strip(const uint16_t *stock, size_t kinds, uint64_t number, uint8_t *buffer,
+                                           size_t length);
+
+/* The lent strip becomes the next one in the dictionary, also where T is 2^64 or more.
+ * Refused: 1, 2, 3, 4, 5, 6, 9; the strip is then as it was. */
+nelfrupi_refusal nelfrupi_dictionary_next(const uint16_t *stock, size_t kinds, uint8_t *strip, size_t length);
+
+/* Conversion: of the strip that has a number in the book, the dictionary number; and of the strip that has a dictionary
+ * number, the number in the book. One after the other, in either order, they give the number one began with.
+ * Refused: 1, 2, 3, 7, 8. */
+nelfrupi_filed nelfrupi_to_dictionary(const uint16_t *stock, size_t kinds, uint64_t number);
+nelfrupi_filed nelfrupi_to_book(const uint16_t *stock, size_t kinds, uint64_t number);
 
 /* ---- two strips of one stock. The two may be the same bytes, or overlap */
 
