@@ -18,9 +18,11 @@ typedef struct {
     uint16_t stock[16];
     uint64_t moves; /* how many are made, from the first strip */
     bool numbered;  /* whether the book has fewer than 2^64 strips */
-    uint8_t first[64], last[64], strips[STRIPS][64];
+    uint8_t first[64], strips[STRIPS][64];
     uint64_t numbers[STRIPS];
     nelfrupi_walker walkers[STRIPS];
+    uint8_t reached[64]; /* where moves from the first strip have come to, */
+    nelfrupi_walker walker; /* and the walker there */
 } work;
 
 /* One way through the strips of a stock: where it stands, and the processor's time that it took. */
@@ -66,109 +68,79 @@ static void by_dictionary(const work *w, way *v, size_t moves)
     }
 }
 
-/* ---- calls, over all strips TIMES times */
+/* ---- one call: on the strip or the number at i, or on where those before it have come to from the first strip */
 
-static void numbers(work *w)
+typedef void call(work *w, size_t i);
+
+static void number(work *w, size_t i)
 {
-    for (int i = 0; i < TIMES * STRIPS; i++) {
-        w->numbers[i % STRIPS] = nelfrupi_number(w->stock, w->kinds, w->strips[i % STRIPS], w->n).number;
-    }
+    w->numbers[i] = nelfrupi_number(w->stock, w->kinds, w->strips[i], w->n).number;
 }
 
-static void plain_numbers(work *w)
+static void plain_number(work *w, size_t i)
 {
-    for (int i = 0; i < TIMES * STRIPS; i++) {
-        w->numbers[i % STRIPS] = book_number(w->stock, w->kinds, w->strips[i % STRIPS], w->n);
-    }
+    w->numbers[i] = book_number(w->stock, w->kinds, w->strips[i], w->n);
 }
 
-static void strips(work *w)
+static void strip(work *w, size_t i)
 {
-    for (int i = 0; i < TIMES * STRIPS; i++) {
-        nelfrupi_strip(w->stock, w->kinds, w->numbers[i % STRIPS], w->strips[i % STRIPS], w->n);
-    }
+    nelfrupi_strip(w->stock, w->kinds, w->numbers[i], w->strips[i], w->n);
 }
 
-static void plain_strips(work *w)
+static void plain_strip(work *w, size_t i)
 {
-    for (int i = 0; i < TIMES * STRIPS; i++) {
-        book_strip(w->stock, w->kinds, w->numbers[i % STRIPS], w->strips[i % STRIPS], w->n);
-    }
+    book_strip(w->stock, w->kinds, w->numbers[i], w->strips[i], w->n);
 }
 
-static void opens(work *w)
+static void opened(work *w, size_t i)
 {
-    for (int i = 0; i < TIMES * STRIPS; i++) {
-        w->walkers[i % STRIPS] = nelfrupi_open(w->stock, w->kinds, w->strips[i % STRIPS], w->n).walker;
-    }
+    w->walkers[i] = nelfrupi_open(w->stock, w->kinds, w->strips[i], w->n).walker;
 }
 
-static void forwards(work *w)
+static void forward(work *w, size_t i)
 {
-    uint8_t strip[64];
-    nelfrupi_walker walker = {{false}};
-    memcpy(strip, w->first, w->n);
-    for (int i = 0; i < TIMES * STRIPS; i++) {
-        nelfrupi_moved moved = nelfrupi_forward(w->stock, w->kinds, strip, w->n, walker);
-        must(moved.refusal.no == 0, "Forward refuses");
-        walker = moved.walker;
-    }
+    nelfrupi_moved moved = nelfrupi_forward(w->stock, w->kinds, w->reached, w->n, w->walker);
+    must(moved.refusal.no == 0, "Forward refuses");
+    w->walker = moved.walker;
+    (void)i;
 }
 
-/* ---- the calls on dictionary numbers */
-
-static void dictionary_numbers(work *w)
+static void filed_number(work *w, size_t i)
 {
-    for (int i = 0; i < TIMES * STRIPS; i++) {
-        w->numbers[i % STRIPS] = nelfrupi_dictionary_number(w->stock, w->kinds, w->strips[i % STRIPS], w->n).number;
-    }
+    w->numbers[i] = nelfrupi_dictionary_number(w->stock, w->kinds, w->strips[i], w->n).number;
 }
 
-static void plain_dictionary_numbers(work *w)
+static void plain_filed_number(work *w, size_t i)
 {
-    for (int i = 0; i < TIMES * STRIPS; i++) {
-        w->numbers[i % STRIPS] = dictionary_number(w->strips[i % STRIPS], w->n);
-    }
+    w->numbers[i] = dictionary_number(w->strips[i], w->n);
 }
 
-static void dictionary_strips(work *w)
+static void filed_strip(work *w, size_t i)
 {
-    for (int i = 0; i < TIMES * STRIPS; i++) {
-        nelfrupi_dictionary_strip(w->stock, w->kinds, w->numbers[i % STRIPS], w->strips[i % STRIPS], w->n);
-    }
+    nelfrupi_dictionary_strip(w->stock, w->kinds, w->numbers[i], w->strips[i], w->n);
 }
 
-static void plain_dictionary_strips(work *w)
+static void plain_filed_strip(work *w, size_t i)
 {
-    for (int i = 0; i < TIMES * STRIPS; i++) {
-        dictionary_strip(w->stock, w->kinds, w->numbers[i % STRIPS], w->strips[i % STRIPS], w->n);
-    }
+    dictionary_strip(w->stock, w->kinds, w->numbers[i], w->strips[i], w->n);
 }
 
-/* Each of these steps on from the first strip, and leaves in w->last where it then stands. */
-
-static void dictionary_nexts(work *w)
+static void filed_next(work *w, size_t i)
 {
-    memcpy(w->last, w->first, w->n);
-    for (int i = 0; i < TIMES * STRIPS; i++) {
-        must(nelfrupi_dictionary_next(w->stock, w->kinds, w->last, w->n).no == 0, "the next strip is refused");
-    }
+    must(nelfrupi_dictionary_next(w->stock, w->kinds, w->reached, w->n).no == 0, "the next strip is refused");
+    (void)i;
 }
 
-static void checked_nexts(work *w)
+static void checked_filed_next(work *w, size_t i)
 {
-    memcpy(w->last, w->first, w->n);
-    for (int i = 0; i < TIMES * STRIPS; i++) {
-        must(checked_step_by_dictionary(w->stock, w->kinds, w->last, w->n), "the dictionary ends");
-    }
+    must(checked_step_by_dictionary(w->stock, w->kinds, w->reached, w->n), "the dictionary ends");
+    (void)i;
 }
 
-static void plain_nexts(work *w)
+static void plain_filed_next(work *w, size_t i)
 {
-    memcpy(w->last, w->first, w->n);
-    for (int i = 0; i < TIMES * STRIPS; i++) {
-        must(step_by_dictionary(w->last, w->n), "the dictionary ends");
-    }
+    must(step_by_dictionary(w->reached, w->n), "the dictionary ends");
+    (void)i;
 }
 
 /* The processor's time, in nanoseconds. */
@@ -177,13 +149,17 @@ static double now(void)
     return (double)clock() * (1e9 / CLOCKS_PER_SEC);
 }
 
-/* Of one call, the least of several rounds. */
-static double least(void (*calls)(work *), work *w)
+/* Of one call, the least of several rounds, each over all strips TIMES times. */
+static double least(call *made, work *w)
 {
     double best = 0;
     for (int round = 0; round < ROUNDS; round++) {
+        memcpy(w->reached, w->first, w->n);
+        w->walker = (nelfrupi_walker){{false}};
         double began = now();
-        calls(w);
+        for (int i = 0; i < TIMES * STRIPS; i++) {
+            made(w, i % STRIPS);
+        }
         double took = (now() - began) / (TIMES * STRIPS);
         best = round == 0 || took < best ? took : best;
     }
@@ -255,58 +231,56 @@ static double print_moves(const work *w)
     return run / moves;
 }
 
+/* Two ways from strips to numbers and back must agree. Gives nanoseconds of the first, and how many times as long it takes
+ * as the second. */
+static void hold_numbers(work *w, call *to_number[2], call *to_strip[2], double took[2], double ratio[2])
+{
+    uint64_t given[STRIPS];
+    uint8_t lent[STRIPS][64];
+    memcpy(lent, w->strips, sizeof lent);
+    took[0] = least(to_number[0], w);
+    memcpy(given, w->numbers, sizeof given);
+    ratio[0] = took[0] / least(to_number[1], w);
+    must(memcmp(given, w->numbers, sizeof given) == 0, "a number and plain C's differ");
+    took[1] = least(to_strip[0], w);
+    must(memcmp(lent, w->strips, sizeof lent) == 0, "a number gives another strip");
+    ratio[1] = took[1] / least(to_strip[1], w);
+    must(memcmp(lent, w->strips, sizeof lent) == 0, "plain C gives another strip");
+}
+
 static void print_calls(work *w)
 {
-    double open = least(opens, w), forward = least(forwards, w);
-    printf("%-12s%9.0f%9.0f", w->title, open, forward);
+    printf("%-12s%9.0f%9.0f", w->title, least(opened, w), least(forward, w));
     if (!w->numbered) {
         printf("%9s%9s%12s%12s\n", "-", "-", "-", "-");
         return;
     }
-    uint64_t given[STRIPS];
-    uint8_t lent[STRIPS][64];
-    memcpy(lent, w->strips, sizeof lent);
-    double number = least(numbers, w);
-    memcpy(given, w->numbers, sizeof given);
-    double plain_number = least(plain_numbers, w);
-    must(memcmp(given, w->numbers, sizeof given) == 0, "Number and plain C give different numbers");
-    double strip = least(strips, w);
-    must(memcmp(lent, w->strips, sizeof lent) == 0, "Strip gives another strip");
-    double plain_strip = least(plain_strips, w);
-    must(memcmp(lent, w->strips, sizeof lent) == 0, "plain C gives another strip");
-    printf("%9.0f%9.0f%12.2f%12.2f\n", number, strip, number / plain_number, strip / plain_strip);
+    double took[2], ratio[2];
+    hold_numbers(w, (call *[]){number, plain_number}, (call *[]){strip, plain_strip}, took, ratio);
+    printf("%9.0f%9.0f%12.2f%12.2f\n", took[0], took[1], ratio[0], ratio[1]);
 }
 
 static void print_next(work *w)
 {
-    uint8_t reached[64];
-    double next = least(dictionary_nexts, w);
-    memcpy(reached, w->last, w->n);
-    double checked = least(checked_nexts, w), plain = least(plain_nexts, w);
-    must(memcmp(reached, w->last, w->n) == 0, "the next strip and plain C come to different strips");
+    uint8_t came[64];
+    double next = least(filed_next, w);
+    memcpy(came, w->reached, w->n);
+    double checked = least(checked_filed_next, w), plain = least(plain_filed_next, w);
+    must(memcmp(came, w->reached, w->n) == 0, "the next strip and plain C's differ");
     printf("%9.0f%12.2f%12.2f\n", next, next / checked, next / plain);
 }
 
-static void print_dictionary(work *w)
+static void print_filed(work *w)
 {
     printf("%-12s", w->title);
-    if (!w->numbered) {
+    if (w->numbered) {
+        double book = least(number, w), took[2], ratio[2];
+        hold_numbers(w, (call *[]){filed_number, plain_filed_number}, (call *[]){filed_strip, plain_filed_strip}, took,
+                     ratio);
+        printf("%9.0f%9.2f%9.0f%12.2f%12.2f", took[0], took[0] / book, took[1], ratio[0], ratio[1]);
+    } else {
         printf("%9s%9s%9s%12s%12s", "-", "-", "-", "-", "-");
-        print_next(w);
-        return;
     }
-    uint64_t given[STRIPS];
-    uint8_t lent[STRIPS][64];
-    memcpy(lent, w->strips, sizeof lent);
-    double book = least(numbers, w), number = least(dictionary_numbers, w);
-    memcpy(given, w->numbers, sizeof given);
-    double plain_number = least(plain_dictionary_numbers, w);
-    must(memcmp(given, w->numbers, sizeof given) == 0, "dictionary number and plain C give different numbers");
-    double strip = least(dictionary_strips, w);
-    must(memcmp(lent, w->strips, sizeof lent) == 0, "dictionary strip gives another strip");
-    double plain_strip = least(plain_dictionary_strips, w);
-    must(memcmp(lent, w->strips, sizeof lent) == 0, "plain C gives another strip");
-    printf("%9.0f%9.2f%9.0f%12.2f%12.2f", number, number / book, strip, number / plain_number, strip / plain_strip);
     print_next(w);
 }
 
@@ -345,7 +319,7 @@ int main(int count, char **arguments)
     printf("%-12s%9s%9s%9s%12s%12s%9s%12s%12s\n", "stock", "number", "/ book", "strip", "number / C", "strip / C", "next",
            "/ checked C", "/ C");
     for (size_t i = 0; i < STOCKS; i++) {
-        print_dictionary(&works[i]);
+        print_filed(&works[i]);
     }
     return 0;
 }

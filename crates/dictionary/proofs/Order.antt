@@ -81,22 +81,10 @@ not-before s t e h = go (ordered s t e)
     go (equal f) = inl f
     go (more l) = inr l
 
-pub before-not : (s t : List ℕ) → (Before s t → ⊥) → before s t ≡ false
-before-not s t h = go (before s t) refl
-  where
-    go : (b : Bool) → before s t ≡ b → before s t ≡ false
-    go true e = absurd (h (before-true s t e))
-    go false e = e
-
 -- behind a common front
 pub front-before : (p s t : List ℕ) → Before s t → Before (p ++ s) (p ++ t)
 front-before [] s t h = h
 front-before (x ∷ p) s t h = inr (refl, front-before p s t h)
-
-pub before-front : (p s t : List ℕ) → Before (p ++ s) (p ++ t) → Before s t
-before-front [] s t h = h
-before-front (x ∷ p) s t (inl l) = absurd (omega arith)
-before-front (x ∷ p) s t (inr q) = before-front p s t (q .1)
 
 -- the first place at which two strips differ
 pub record Parts (s t : List ℕ) : Type 0 where

@@ -7,10 +7,9 @@ use native.Mathlib.Decide.{decLt}
 use native.Mathlib.Omega.{arith}
 use lib.ListN.{length, getD}
 use Rattle.rules.specs.Stock.{total, IsStrip}
-use Rattle.rules.specs.Book.{book, placeIn}
+use Rattle.rules.specs.Book.{placeIn}
 use Rattle.rules.proofs.Listed.{once}
-use Rattle.rules.proofs.Strips.{listed as book-listed}
-use Rattle.rules.proofs.Places.{place-of, there-and-back}
+use Rattle.rules.proofs.Places.{place-of}
 use Rattle.dictionary.specs.Dictionary.{before, dictionary}
 use Rattle.dictionary.proofs.Order.{Before, true-before, before-true}
 use Rattle.dictionary.proofs.Sorted.{rises-at}
@@ -87,11 +86,3 @@ module _ (counts : List ℕ) where
           let pu : placeIn (dictionary counts) u ≡ suc i = dictionary-place (suc i) m in
           absurd (none u own (before-true s u (smaller-before s u h own (omega arith))))
       go i e l (no m) = omega arith
-
-  -- ---- the two numberings: from a number in the one to the other, and back
-
-  pub book-and-back : (i : ℕ) → i < total counts → (placeIn (dictionary counts) (getD (book counts) i []) < total counts) × (placeIn (book counts) (getD (dictionary counts) (placeIn (dictionary counts) (getD (book counts) i [])) []) ≡ i)
-  book-and-back = there-and-back (book-listed counts) (listed counts)
-
-  pub dictionary-and-back : (i : ℕ) → i < total counts → (placeIn (book counts) (getD (dictionary counts) i []) < total counts) × (placeIn (dictionary counts) (getD (book counts) (placeIn (book counts) (getD (dictionary counts) i [])) []) ≡ i)
-  dictionary-and-back = there-and-back (listed counts) (book-listed counts)

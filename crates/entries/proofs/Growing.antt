@@ -67,13 +67,6 @@ module _ (orders n count c found : ℕ) (l : Laid orders n count c found) where
     grown-is : more ≡ fitting (orders * binom (suc c + n) n)
     grown-is = is ∙ ap fitting next
 
-    some-orders : 0 < orders
-    some-orders = go orders (l .found-is)
-      where
-        go : (m : ℕ) → found ≡ m * binom (c + n) n → 0 < m
-        go zero e = absurd (omega (arith, l .some))
-        go (suc m) e = omega arith
-
     some-next : 0 < orders * binom (suc c + n) n
     some-next = omega (arith, mul-le-mul-left {m = binom (c + n) n} {n = binom (suc c + n) n} orders (binom-grows n c (suc c) (omega arith)), l .found-is, l .some)
 

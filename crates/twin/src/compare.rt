@@ -1,4 +1,5 @@
 // A whole book compared with what the calls answer.
+use crate::filed::compare_dictionary;
 use crate::moves::move_agrees;
 use crate::pairs::compare_pair;
 use crate::rows::directions_at;
@@ -83,4 +84,5 @@ pub fn compare_book(tally: &mut Tally, stock: &[u16], book: &[u8], work: &mut [u
     note(tally, tally::FIRST, first_agrees(stock, first, work));
     compare_runs(tally, stock, book, work);
     compare_strips(tally, stock, book, work);
+    compare_dictionary(tally, stock, book, work);
 }

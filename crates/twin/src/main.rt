@@ -1,7 +1,10 @@
 // Builds whole books by the rule of document 01 itself, for every stock of up to 7 blocks, and compares them number by number with what the
-// calls answer. Words and strips are listed one after the other: nothing is ranked, and no strip is moved to get the next one.
+// calls answer. Words and strips are listed one after the other: nothing is ranked, and no strip is moved to get the next one. The dictionary of a
+// stock is its book, sorted by comparing strips block by block.
 mod books;
 mod compare;
+mod dictionary;
+mod filed;
 mod moves;
 mod pairs;
 mod patterns;
@@ -75,7 +78,7 @@ fn compare_all(lists: &Lists, tally: &mut Tally) {
 
 fn main() {
     let mut lists: Lists = [0; 2304];
-    let mut tally: Tally = [0; 32];
+    let mut tally: Tally = [0; 64];
     patterns::fill(&mut lists);
     compare_all(&lists, &mut tally);
     tally::print(&tally);

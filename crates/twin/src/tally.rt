@@ -2,9 +2,9 @@
 use io::print_decimal;
 use io::write_all;
 
-pub type Tally = [u64; 32];
+pub type Tally = [u64; 64];
 
-// A number for each call that is compared; how often it disagreed stands 16 further on.
+// A number for each call that is compared; how often it disagreed stands 32 further on.
 pub const COUNT: usize = 0;
 
 pub const FIRST: usize = 1;
@@ -29,8 +29,18 @@ pub const EARLIER: usize = 10;
 
 pub const DISTANCE: usize = 11;
 
+pub const DICTIONARY_NUMBER: usize = 12;
+
+pub const DICTIONARY_STRIP: usize = 13;
+
+pub const DICTIONARY_NEXT: usize = 14;
+
+pub const TO_DICTIONARY: usize = 15;
+
+pub const TO_BOOK: usize = 16;
+
 fn add_one(tally: &mut Tally, i: usize) {
-    if i < 32 {
+    if i < 64 {
         let seen = tally[i];
         if seen < 1000000000 {
             tally[i] = seen + 1;
@@ -44,8 +54,8 @@ pub fn note(tally: &mut Tally, call: usize, agrees: bool) {
     if agrees {
         return;
     }
-    if call < 16 {
-        add_one(tally, call + 16);
+    if call < 32 {
+        add_one(tally, call + 32);
     }
 }
 
@@ -55,9 +65,9 @@ fn said(words: &[u8], number: u64) {
 }
 
 fn line(words: &[u8], tally: &Tally, call: usize) {
-    if call < 16 {
+    if call < 32 {
         said(words, tally[call]);
-        said(b" compared, ", tally[call + 16]);
+        said(b" compared, ", tally[call + 32]);
         write_all(1, b" disagreed\n");
     }
 }
@@ -83,6 +93,14 @@ fn print_pairs(tally: &Tally) {
     line(b"Distance: ", tally, DISTANCE);
 }
 
+fn print_dictionary(tally: &Tally) {
+    line(b"Dictionary number: ", tally, DICTIONARY_NUMBER);
+    line(b"Dictionary strip: ", tally, DICTIONARY_STRIP);
+    line(b"Dictionary next: ", tally, DICTIONARY_NEXT);
+    line(b"To dictionary: ", tally, TO_DICTIONARY);
+    line(b"To book: ", tally, TO_BOOK);
+}
+
 // Count is compared once a stock, and Number once a strip.
 pub fn print(tally: &Tally) {
     said(b"Stocks: ", tally[COUNT]);
@@ -91,4 +109,5 @@ pub fn print(tally: &Tally) {
     print_single(tally);
     print_moves(tally);
     print_pairs(tally);
+    print_dictionary(tally);
 }
