@@ -32,7 +32,7 @@ pub fn total_of(rows: &[u64; 2145], stock: &[u16]) -> u64
     strips
 }
 
-// The first refusal of a number: 7, then 8. strips is T, or 0 where that is 2^64 or more.
+// The first refusal of a number: 7, then 8. strips is T of the stock, which is not looked at itself, or 0 where T is 2^64 or more.
 pub fn check_number(stock: &[u16], strips: u64, number: u64) -> Refusal
     requires { ⌜ strips ≡ unless (manyNo (now stock)) 0 (total (now stock)) ⌝ }
     ensures { λ r. ⌜ r ≡ refusal (firstOf (manyNo (now (stock .entry)) ∷ aboveNo (now (stock .entry)) number ∷ [])) ⌝ }

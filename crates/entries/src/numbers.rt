@@ -29,8 +29,8 @@ fn lower_kinds(seen: &[u64; 17], kind: usize) -> u64
     found
 }
 
-// The place of a strip in the dictionary of its stock. Of the blocks from i on: how many there are of each kind, how many orders they have, and how
-// many of these orders come before theirs.
+// The place of a strip in the dictionary of its stock, which is not looked at itself. Of the blocks from i on: how many there are of each kind, how
+// many orders they have, and how many of these orders come before theirs.
 pub fn entry_of(stock: &[u16], strip: &[u8]) -> Entry
     requires { ⌜ IsStock (now stock) × IsStrip (now stock) (now strip) ⌝ }
     ensures { λ r. ⌜ (r .strips ≡ fitting (total (now (stock .entry)))) × (total (now (stock .entry)) < 2 ^ 64 → r .number ≡ placeIn (dictionary (now (stock .entry))) (now (strip .entry))) ⌝ }

@@ -69,8 +69,14 @@ fn to_book_agrees(stock: &[u16], i: usize, number: usize) -> bool {
     answer_agrees(refusal, filed.number, number)
 }
 
-// The strip at an index of the dictionary.
-fn compare_strip(tally: &mut Tally, stock: &[u16], blocks: &[u8], i: usize, work: &mut [u8]) {
+// From the strip at an index of the dictionary to its number, and back.
+fn compare_there_and_back(
+    tally: &mut Tally,
+    stock: &[u16],
+    blocks: &[u8],
+    i: usize,
+    work: &mut [u8],
+) {
     note(
         tally,
         tally::DICTIONARY_NUMBER,
@@ -102,7 +108,7 @@ fn compare_entry(
     work: &mut [u8],
 ) {
     let number = entry(order, i);
-    compare_strip(tally, stock, strip_at(book, number, work.len()), i, work);
+    compare_there_and_back(tally, stock, strip_at(book, number, work.len()), i, work);
     compare_numbers(tally, stock, number, i);
     note(
         tally,
