@@ -13,17 +13,18 @@ use Rattle.rules.proofs.Places.{book-only, place-below, place-undone}
 use Rattle.stock.specs.declared.Refusal.{Refusal}
 use Rattle.dictionary.specs.Dictionary.{dictionary}
 use Rattle.drawers.specs.declared.Filed.{Filed}
-use Rattle.drawers.proofs.Theorems.{dictionary-number-right, dictionary-strip-right, dictionary-next-right, to-dictionary-right, to-book-right}
+use Rattle.drawers.proofs.Theorems.{dictionary-number-right, dictionary-strip-right, dictionary-next-right}
+use Rattle.converting.proofs.Theorems.{to-dictionary-right, to-book-right}
 use Rattle.drawers.proofs.number.dictionary_number.Kinds as number
 use Rattle.drawers.proofs.number.dictionary_number.Reads as number-reads
 use Rattle.drawers.proofs.strip.dictionary_strip.Kinds as strip
 use Rattle.drawers.proofs.strip.dictionary_strip.Reads as strip-reads
 use Rattle.drawers.proofs.next.dictionary_next.Kinds as next
 use Rattle.drawers.proofs.next.dictionary_next.Reads as next-reads
-use Rattle.drawers.proofs.convert.to_dictionary.Kinds as to-dictionary
-use Rattle.drawers.proofs.convert.to_dictionary.Reads as to-dictionary-reads
-use Rattle.drawers.proofs.convert.to_book.Kinds as to-book
-use Rattle.drawers.proofs.convert.to_book.Reads as to-book-reads
+use Rattle.converting.proofs.to_dictionary.Kinds as to-dictionary
+use Rattle.converting.proofs.to_dictionary.Reads as to-dictionary-reads
+use Rattle.converting.proofs.to_book.Kinds as to-book
+use Rattle.converting.proofs.to_book.Reads as to-book-reads
 -- the list rises strictly in dictionary order, and no other list does that holds the strips of the stock
 pub use Rattle.dictionary.proofs.Theorems.{dictionary-order}
 pub use Rattle.dictionary.proofs.Unique.{dictionary-unique}
@@ -32,7 +33,8 @@ pub use Rattle.dictionary.proofs.Theorems.{dictionary-size, dictionary-only, di
 -- the binary case of document 004
 pub use Rattle.dictionary.proofs.Marked.{binary}
 -- number and strip undo each other, and conversion there and back gives the number one began with, for any outcomes that the contracts allow
-pub use Rattle.drawers.proofs.Theorems.{dictionary-number-of-strip, dictionary-strip-of-number, to-dictionary-and-back, to-book-and-back}
+pub use Rattle.drawers.proofs.Theorems.{dictionary-number-of-strip, dictionary-strip-of-number}
+pub use Rattle.converting.proofs.Theorems.{to-dictionary-and-back, to-book-and-back}
 
 -- ---- dictionary order and book hold the same strips
 

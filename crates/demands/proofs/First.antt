@@ -26,18 +26,20 @@ use Rattle.numbering.proofs.number.number.Reads as number-reads
 use Rattle.numbering.proofs.strip.strip.Kinds as strip
 use Rattle.numbering.proofs.strip.strip.Reads as strip-reads
 use Rattle.drawers.specs.declared.Filed.{Filed}
-use Rattle.drawers.specs.Answers.{dictionaryNumberAnswer, dictionaryStripAnswer, dictionaryNextNos, dictionaryNextAnswer, convertNos, convertAnswer}
-use Rattle.drawers.proofs.Theorems.{dictionary-number-right, dictionary-strip-right, dictionary-next-right, to-dictionary-right, to-book-right}
+use Rattle.drawers.specs.Answers.{dictionaryNumberAnswer, dictionaryStripAnswer, dictionaryNextNos, dictionaryNextAnswer}
+use Rattle.drawers.proofs.Theorems.{dictionary-number-right, dictionary-strip-right, dictionary-next-right}
 use Rattle.drawers.proofs.number.dictionary_number.Kinds as dictionary-number
 use Rattle.drawers.proofs.number.dictionary_number.Reads as dictionary-number-reads
 use Rattle.drawers.proofs.strip.dictionary_strip.Kinds as dictionary-strip
 use Rattle.drawers.proofs.strip.dictionary_strip.Reads as dictionary-strip-reads
 use Rattle.drawers.proofs.next.dictionary_next.Kinds as dictionary-next
 use Rattle.drawers.proofs.next.dictionary_next.Reads as dictionary-next-reads
-use Rattle.drawers.proofs.convert.to_dictionary.Kinds as to-dictionary
-use Rattle.drawers.proofs.convert.to_dictionary.Reads as to-dictionary-reads
-use Rattle.drawers.proofs.convert.to_book.Kinds as to-book
-use Rattle.drawers.proofs.convert.to_book.Reads as to-book-reads
+use Rattle.converting.specs.Answers.{convertNos, convertAnswer}
+use Rattle.converting.proofs.Theorems.{to-dictionary-right, to-book-right}
+use Rattle.converting.proofs.to_dictionary.Kinds as to-dictionary
+use Rattle.converting.proofs.to_dictionary.Reads as to-dictionary-reads
+use Rattle.converting.proofs.to_book.Kinds as to-book
+use Rattle.converting.proofs.to_book.Reads as to-book-reads
 use Rattle.comparing.specs.declared.which.Compared.{Compared}
 use Rattle.comparing.specs.Answers.{Lent, EmptyPart, whichAnswer}
 use Rattle.comparing.proofs.Theorems.{which-refused-zero, earlier-refused}

@@ -4,7 +4,8 @@
 -- The calls for C have theirs too, over their own contracts.
 pub use Rattle.counting.proofs.Theorems.{count-one-outcome, first-one-outcome}
 pub use Rattle.numbering.proofs.Theorems.{number-one-outcome, strip-one-outcome}
-pub use Rattle.drawers.proofs.Theorems.{dictionary-number-one-outcome, dictionary-strip-one-outcome, dictionary-next-one-outcome, to-dictionary-one-outcome, to-book-one-outcome}
+pub use Rattle.drawers.proofs.Theorems.{dictionary-number-one-outcome, dictionary-strip-one-outcome, dictionary-next-one-outcome}
+pub use Rattle.converting.proofs.Theorems.{to-dictionary-one-outcome, to-book-one-outcome}
 pub use Rattle.comparing.proofs.Theorems.{which-one-outcome, earlier-one-slice}
 pub use Rattle.measuring.proofs.Theorems.{distance-one-outcome}
 pub use Rattle.walker.proofs.Theorems.{one-outcome as open-one-outcome}

@@ -4,8 +4,8 @@ use mathlib.Core.List.{List, [], _∷_, _++_}
 use lib.Dec.{eqb}
 use lib.ListN.{getD}
 use Rattle.rules.specs.Stock.{total}
-use Rattle.rules.specs.Book.{book, placeIn}
-use Rattle.rules.specs.Refusals.{No, when, firstOf, unless, answer, stockNos, checkNos, manyNo, aboveNo}
+use Rattle.rules.specs.Book.{placeIn}
+use Rattle.rules.specs.Refusals.{No, when, firstOf, unless, answer, checkNos}
 use Rattle.stock.specs.declared.Refusal.{Refusal}
 use Rattle.stock.specs.Refused.{refusal}
 use Rattle.numbering.specs.Answers.{numberNos, byNumberNos}
@@ -42,19 +42,3 @@ dictionaryNextAnswer counts s = refusal (firstOf (dictionaryNextNos counts s))
 
 unfoldable pub dictionaryNextAfter : List ℕ → List ℕ → List ℕ
 dictionaryNextAfter counts s = unless (firstOf (dictionaryNextNos counts s)) s (getD (dictionary counts) (placeIn (dictionary counts) s + 1) [])
-
--- ---- conversion: of the strip that has a number in one list of the stock's strips, the number in another; refusals 1, 2, 3, then 7, then 8
-
-unfoldable pub convertNos : List ℕ → ℕ → List No
-convertNos counts number = stockNos counts ++ (manyNo counts ∷ aboveNo counts number ∷ [])
-
-unfoldable pub convertAnswer : (from to : List (List ℕ)) → List ℕ → ℕ → Filed
-convertAnswer from to counts number = answer asFiled (convertNos counts number) 0 (placeIn to (getD from number []))
-
--- from the book's number to the dictionary's
-abbrev pub toDictionaryAnswer : List ℕ → ℕ → Filed
-toDictionaryAnswer counts number = convertAnswer (book counts) (dictionary counts) counts number
-
--- and from the dictionary's to the book's
-abbrev pub toBookAnswer : List ℕ → ℕ → Filed
-toBookAnswer counts number = convertAnswer (dictionary counts) (book counts) counts number

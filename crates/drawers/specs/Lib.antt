@@ -1,3 +1,2 @@
 -- TO BE BELIEVED: what the calls on dictionary numbers answer.
 pub mod Answers
-pub mod Lists

@@ -1,12 +1,11 @@
-// Drawers: the calls on dictionary numbers, as the archive's old drawers have them; one file for each, and one for conversion both ways.
-pub mod convert;
+// Drawers: the calls on dictionary numbers, as the archive's old drawers have them, one file for each.
 pub mod next;
 pub mod number;
 pub mod strip;
 
 use stock::Refusal;
 
-// What the calls that give a number answer.
+// What the calls that give a number answer, those of `converting` too.
 #[repr(C)]
 pub struct Filed {
     pub refusal: Refusal,

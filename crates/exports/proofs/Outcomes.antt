@@ -5,7 +5,8 @@ use mathlib.Core.List.{List}
 use Rattle.rules.specs.Outcome.{OneAnswer, OneOutcome}
 use Rattle.counting.proofs.Theorems.{count-one-outcome, first-one-outcome}
 use Rattle.numbering.proofs.Theorems.{number-one-outcome, strip-one-outcome}
-use Rattle.drawers.proofs.Theorems.{dictionary-number-one-outcome, dictionary-strip-one-outcome, dictionary-next-one-outcome, to-dictionary-one-outcome, to-book-one-outcome}
+use Rattle.drawers.proofs.Theorems.{dictionary-number-one-outcome, dictionary-strip-one-outcome, dictionary-next-one-outcome}
+use Rattle.converting.proofs.Theorems.{to-dictionary-one-outcome, to-book-one-outcome}
 use Rattle.comparing.proofs.Theorems.{which-one-outcome}
 use Rattle.measuring.proofs.Theorems.{distance-one-outcome}
 use Rattle.walker.proofs.Theorems.{one-outcome as open-one-outcome}

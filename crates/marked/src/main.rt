@@ -1,5 +1,5 @@
 // Runs the marked strips of document 01 that are not proved, the marked numbers of 1 2 2, a strip for each refusal from 1 to 6, and the calls on
-// dictionary numbers, mostly where a dictionary ends. A line says the call, what it was lent and what came.
+// dictionary numbers where a dictionary ends. A line says the call, what it was lent and what came.
 //
 // An array that many lines need is lent in one small function: each place that lends one makes the check of its function longer.
 mod filed;
@@ -69,13 +69,6 @@ fn refused() {
     of_1_2_2([1, 2, 3, 3, 3]);
 }
 
-// Counts 2 2: the first strip of the dictionary, the last but one, and a next strip.
-fn dictionary_of_2_2(stock: &[u16]) {
-    filed::of_number(stock, &[1, 1, 2, 2]);
-    filed::of_number(stock, &[2, 1, 2, 1]);
-    filed::of_next(stock, &mut [1, 2, 2, 1]);
-}
-
 // The end of a dictionary with nearly 2^64 strips, and the number behind it.
 fn long_dictionary(stock: &[u16], last: &mut [u8]) {
     filed::of_strip(stock, 14428278950913093727, last);
@@ -92,18 +85,9 @@ fn longer_dictionary(stock: &[u16], blocks: &mut [u8]) {
     filed::of_to_dictionary(stock, 0);
 }
 
-// From the one number to the other, and the number behind the last of twelve.
-fn both_numbers(stock: &[u16]) {
-    filed::of_to_dictionary(stock, 2);
-    filed::of_to_book(stock, 6);
-    filed::of_to_dictionary(stock, 12);
-}
-
 fn dictionaries() {
-    dictionary_of_2_2(&[2, 2]);
     long_dictionary(&[30, 31, 1], &mut [0; 62]);
     longer_dictionary(&[31, 31, 1], &mut [0; 63]);
-    both_numbers(&[1, 1, 2]);
     filed::of_to_book(&[0, 70], 0);
     filed::of_next(&[64], &mut [1; 64]);
 }

@@ -15,9 +15,10 @@ use Rattle.stock.specs.Refused.{refusal}
 use Rattle.stock.proofs.Tested.{passed, stopped}
 use Rattle.numbering.specs.Answers.{numberNos, byNumberNos}
 use Rattle.dictionary.proofs.Theorems.{dictionary-only}
 use Rattle.drawers.specs.declared.Filed.{Filed}
-use Rattle.drawers.specs.Answers.{asFiled, convertNos, convertAnswer}
-use Rattle.drawers.specs.Lists.{listOf}
+use Rattle.drawers.specs.Answers.{asFiled}
+use Rattle.converting.specs.Answers.{convertNos, convertAnswer}
+use Rattle.converting.specs.Lists.{listOf}
 
 -- either list holds strips of the stock only
 only : (filed : Bool) (counts : List ℕ) (i : ℕ) → i < total counts → IsStrip counts (getD (listOf filed counts) i [])

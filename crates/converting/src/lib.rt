@@ -1,7 +1,7 @@
-// Conversion between the two numberings: the strip of a number in the one list, and the number of that strip in the other.
-use crate::Filed;
-use crate::number::dictionary_number;
-use crate::strip::dictionary_strip;
+// Converting: between the book's numbers and dictionary numbers. The strip of a number in the one list, and the number of that strip in the other.
+use drawers::Filed;
+use drawers::number::dictionary_number;
+use drawers::strip::dictionary_strip;
 use numbering::number::number;
 use numbering::strip::strip;
 use stock::Refusal;
@@ -15,8 +15,9 @@ ghost use Rattle.rules.specs.Book.{placeIn};
 ghost use Rattle.rules.specs.Refusals.{firstOf, unless, answer};
 ghost use Rattle.stock.specs.Refused.{refusal};
 ghost use Rattle.numbering.specs.Answers.{numberNos, byNumberNos};
-ghost use Rattle.drawers.specs.Answers.{asFiled, convertAnswer, toDictionaryAnswer, toBookAnswer};
-ghost use Rattle.drawers.specs.Lists.{listOf};
+ghost use Rattle.drawers.specs.Answers.{asFiled};
+ghost use Rattle.converting.specs.Answers.{convertAnswer, toDictionaryAnswer, toBookAnswer};
+ghost use Rattle.converting.specs.Lists.{listOf};
 
 // The strip of a number in the book, or where `filed` in the dictionary.
 fn strip_in(stock: &[u16], at: u64, filed: bool, buffer: &mut [u8]) -> Refusal

@@ -1,9 +1,9 @@
--- `drawers::convert::strip_in` meets its contract: both calls answer by one list of refusals.
+-- `converting::strip_in` meets its contract: both calls answer by one list of refusals.
 use borrow.Author.Needs.{needs}
 use Rattle.numbering.specs.Answers.{stripAnswer, stripAfter}
 use Rattle.drawers.specs.Answers.{dictionaryStripAnswer, dictionaryStripAfter}
-use Rattle.drawers.proofs.convert.strip_in.Statement.{statement}
-use Rattle.drawers.proofs.convert.strip_in.Tie as tie
+use Rattle.converting.proofs.strip_in.Statement.{statement}
+use Rattle.converting.proofs.strip_in.Tie as tie
 
 returns : tie.Need-returns
 unfolding dictionaryStripAnswer dictionaryStripAfter

@@ -1,11 +1,11 @@
--- `drawers::convert::number_in` meets its contract: both calls answer by one list of refusals.
+-- `converting::number_in` meets its contract: both calls answer by one list of refusals.
 use mathlib.Core.Path.{ap}
 use borrow.Author.Needs.{needs}
 use Rattle.numbering.specs.declared.number.Numbered.{Numbered}
 use Rattle.numbering.specs.Answers.{numberAnswer}
 use Rattle.drawers.specs.Answers.{dictionaryNumberAnswer}
-use Rattle.drawers.proofs.convert.number_in.Statement.{statement}
-use Rattle.drawers.proofs.convert.number_in.Tie as tie
+use Rattle.converting.proofs.number_in.Statement.{statement}
+use Rattle.converting.proofs.number_in.Tie as tie
 
 returns : tie.Need-returns
 unfolding dictionaryNumberAnswer

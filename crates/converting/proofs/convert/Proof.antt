@@ -1,4 +1,4 @@
--- `drawers::convert::convert` meets its contract: the stock is checked, the strip of the number found, and numbered in the other list.
+-- `converting::convert` meets its contract: the stock is checked, the strip of the number found, and numbered in the other list.
 use Prim.Native.Nat.{ℕ, _≤_}
 use mathlib.Core.Path.{_≡_, sym, ap, _∙_}
 use mathlib.Core.Bool.{Bool, not}
@@ -12,10 +12,10 @@ use Rattle.rules.specs.Refusals.{stockNos}
 use Rattle.rules.proofs.Checks.{accepted}
 use Rattle.rules.proofs.Strips.{strip-sum}
 use Rattle.stock.proofs.Tested.{passed}
-use Rattle.drawers.specs.Lists.{listOf}
-use Rattle.drawers.proofs.Converting.{not-stock, not-held, word-own, converted}
-use Rattle.drawers.proofs.convert.convert.Statement.{statement}
-use Rattle.drawers.proofs.convert.convert.Tie as tie
+use Rattle.converting.specs.Lists.{listOf}
+use Rattle.converting.proofs.Halves.{not-stock, not-held, word-own, converted}
+use Rattle.converting.proofs.convert.Statement.{statement}
+use Rattle.converting.proofs.convert.Tie as tie
 
 -- 1, 2, 3 refuse
 returns : tie.Need-returns
