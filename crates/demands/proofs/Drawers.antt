@@ -3,6 +3,7 @@
 use Prim.Native.Nat.{ℕ, _+_, _^_, _<_}
 use mathlib.Core.Path.{_≡_}
 use mathlib.Core.List.{List, []}
+use native.Mathlib.Omega.{arith}
 use lib.ListN.{length, getD}
 use contract.Lifetimes.{Lfts}
 use borrow.Fn.Kinds.{Dens, endedOf}
@@ -86,6 +87,12 @@ module _ (κs : Lfts 2) (a : Dens κs next.ps) (r : Refusal) (s : AtExit (endedO
 
   pub only-the-last-is-nine : r .no ≡ 9 → IsStock (a .0 .now) × IsStrip (a .0 .now) (a .1 .0 .now) × (placeIn (dictionary (a .0 .now)) (a .1 .0 .now) + 1 ≡ total (a .0 .now))
   only-the-last-is-nine = dictionary-next-right κs a r s h .ends
+
+  -- neither 7 nor 8, whatever the input
+  pub next-is-never-seven-or-eight : (r .no ≡ 7 → ⊥) × (r .no ≡ 8 → ⊥)
+  next-is-never-seven-or-eight =
+      let n = dictionary-next-right κs a r s h in
+      (λ e. omega (arith, n .other (λ f. omega arith)), λ e. omega (arith, n .other (λ f. omega arith)))
 
 -- ---- conversion
 

@@ -76,12 +76,13 @@ module _ (κs κt : Lfts 2) (a : Dens κs strip.ps) (b : Dens κt number.ps) (r 
 
 -- ---- the next strip
 
--- it is refused by 1 to 6, or by 9 on the last entry and there alone, so neither 7 nor 8 is met; moved on, the strip is the entry after; refused, as it was
+-- it is refused by 1 to 6, or by 9 on the last entry and there alone; moved on, the strip is the entry after; refused, as it was
 pub record NextRight (counts strip after : List ℕ) (no : ℕ) : Type 0 where
   pub accepts : no ≡ 0 → IsStock counts × IsStrip counts strip × (placeIn (dictionary counts) strip + 1 < total counts)
   pub accepted : IsStock counts → IsStrip counts strip → placeIn (dictionary counts) strip + 1 < total counts → no ≡ 0
   pub ends : no ≡ 9 → IsStock counts × IsStrip counts strip × (placeIn (dictionary counts) strip + 1 ≡ total counts)
   pub ended : IsStock counts → IsStrip counts strip → placeIn (dictionary counts) strip + 1 ≡ total counts → no ≡ 9
+  pub other : (no ≡ 9 → ⊥) → no ≤ 6
   pub moved : no ≡ 0 → after ≡ getD (dictionary counts) (placeIn (dictionary counts) strip + 1) []
   pub kept : (no ≡ 0 → ⊥) → after ≡ strip
 
@@ -114,6 +115,17 @@ module _ (counts s : List ℕ) where
   unfolding dictionaryNextNos
   refused-to-six z = rw (refused-first (checkNos counts s) (lastNo counts s ∷ []) z) (check-to-six counts s)
 
+  next-other : (firstOf (dictionaryNextNos counts s) .0 ≡ 9 → ⊥) → firstOf (dictionaryNextNos counts s) .0 ≤ 6
+  unfolding firstOf
+  next-other n = elim (ℕ-discrete (firstOf (checkNos counts s) .0) 0) [
+    | yes z ↦ let b = accepted-both counts s z in none-or-nine (eqb at (total counts)) (decides (b .0) (b .1))
+    | no z ↦ refused-to-six z
+  ]
+    where
+      none-or-nine : (b : Bool) → firstOf (dictionaryNextNos counts s) ≡ firstOf (when 9 b ∷ []) → firstOf (dictionaryNextNos counts s) .0 ≤ 6
+      none-or-nine true e = absurd (n (ap (λ (r : No). r .0) e))
+      none-or-nine false e = omega (arith, ap (λ (r : No). r .0) e)
+
   last-of : (b : Bool) → eqb at (total counts) ≡ b → firstOf (when 9 b ∷ []) .0 ≡ 9 → at ≡ total counts
   unfolding firstOf
   last-of true f e = eqb-true at (total counts) f
@@ -134,6 +146,7 @@ next-is-right counts s after r h k =
       accepted = λ a b l. no ∙ next-passed counts s a b l;
       ends = λ e. next-ends counts s (sym no ∙ e);
       ended = λ a b l. no ∙ next-ended counts s a b l;
+      other = λ n. rw no (next-other counts s (λ e. n (no ∙ e)));
       moved = λ e. k ∙ unless-passed s _ _ (sym no ∙ e);
       kept = λ e. k ∙ unless-refused s _ _ (λ m. e (no ∙ m));
     }

@@ -1,7 +1,7 @@
 // The strip of a dictionary number.
 use counting::check_number;
-use entries::orders_of;
 use entries::strip_at;
+use orders::orders_of;
 use stock::Refusal;
 use stock::check_buffer;
 ghost use mathlib.Core.Path.{_≡_};

@@ -1,9 +1,7 @@
 // Entries: the number of a strip in the dictionary of its stock, and the strip of a number. The functions behind the calls.
 mod numbers;
-mod orders;
 mod strips;
 
 pub use numbers::Entry;
 pub use numbers::entry_of;
-pub use orders::orders_of;
 pub use strips::strip_at;

@@ -1,5 +1,5 @@
 // The strip of a number in the dictionary, from its first block to its last.
-use crate::orders::share;
+use orders::share;
 ghost use Prim.Native.Nat.{_≤_, _<_};
 ghost use mathlib.Core.Path.{_≡_};
 ghost use mathlib.Core.List.{[]};

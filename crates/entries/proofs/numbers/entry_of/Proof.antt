@@ -3,7 +3,7 @@ use Prim.Native.Nat.{_+_, _-_, _*_, _/_, _^_, _<_}
 use mathlib.Core.Path.{_≡_}
 use native.Mathlib.Omega.{arith}
 use lib.ListN.{getD}
-use Rattle.entries.proofs.Parts.{over}
+use Rattle.orders.proofs.Parts.{over}
 use Rattle.entries.proofs.Tails.{Tail, tail-none, tail-all, Turn, turn}
 use Rattle.entries.proofs.numbers.entry_of.Statement.{statement}
 use Rattle.entries.proofs.numbers.entry_of.Tie as tie

@@ -1,10 +1,10 @@
--- `entries::orders::orders_of` meets its contract. The invariant: j kinds are laid in.
+-- `orders::orders_of` meets its contract. The invariant: j kinds are laid in.
 use Prim.Native.Nat.{_-_}
 use native.Mathlib.Omega.{arith}
 use lib.ListN.{length}
-use Rattle.entries.proofs.Growing.{Kinds, kinds-start, kinds-some, kinds-short, kinds-over, kinds-on, kinds-end}
-use Rattle.entries.proofs.orders.orders_of.Statement.{statement}
-use Rattle.entries.proofs.orders.orders_of.Tie as tie
+use Rattle.orders.proofs.Growing.{Kinds, kinds-start, kinds-some, kinds-short, kinds-over, kinds-on, kinds-end}
+use Rattle.orders.proofs.orders_of.Statement.{statement}
+use Rattle.orders.proofs.orders_of.Tie as tie
 
 abbrev Inv-loop : tie.InvT-loop
 Inv-loop stock orders₀ n₀ j₀ orders n j = Kinds stock orders n j

@@ -1,9 +1,9 @@
--- `entries::orders::with_kind` meets its contract. The invariant: c blocks of the kind are laid in.
+-- `orders::with_kind` meets its contract. The invariant: c blocks of the kind are laid in.
 use Prim.Native.Nat.{_-_}
 use native.Mathlib.Omega.{arith}
-use Rattle.entries.proofs.Growing.{Laid, laid-start, laid-on, laid-over, laid-end}
-use Rattle.entries.proofs.orders.with_kind.Statement.{statement}
-use Rattle.entries.proofs.orders.with_kind.Tie as tie
+use Rattle.orders.proofs.Growing.{Laid, laid-start, laid-on, laid-over, laid-end}
+use Rattle.orders.proofs.with_kind.Statement.{statement}
+use Rattle.orders.proofs.with_kind.Tie as tie
 
 abbrev Inv-loop : tie.InvT-loop
 Inv-loop orders n count found₀ c₀ found c = Laid orders n count c found

@@ -1,8 +1,8 @@
-// How many orders blocks have, one block more at a time, with no product that wraps.
+// Orders: how many orders the blocks of a stock have, one block more at a time, with no product that wraps.
 ghost use Prim.Native.Nat.{_+_, _*_, _/_, _^_, _≤_, _<_};
 ghost use mathlib.Core.Path.{_≡_};
 ghost use Rattle.rules.specs.Stock.{binom, total, IsStock};
-ghost use Rattle.entries.specs.Fitting.{fitting};
+ghost use Rattle.orders.specs.Fitting.{fitting};
 
 // The largest 64-bit number.
 const MOST: u64 = 18446744073709551615;

@@ -15,8 +15,8 @@ use Rattle.rules.proofs.Patterns.{binom-self}
 use Rattle.rules.proofs.Strips.{total-one}
 use Rattle.rules.proofs.Turned.{sum-next}
 use Rattle.rules.proofs.Prefixes.{sum-take, total-next, total-take, total-some}
-use Rattle.entries.specs.Fitting.{fitting}
-use Rattle.entries.proofs.Parts.{fits, over, zero-over, some-fits}
+use Rattle.orders.specs.Fitting.{fitting}
+use Rattle.orders.proofs.Parts.{fits, over, zero-over, some-fits}
 
 -- ---- one block more
 

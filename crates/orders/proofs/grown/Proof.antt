@@ -1,10 +1,10 @@
--- `entries::orders::grown` meets its contract.
+-- `orders::grown` meets its contract.
 use Prim.Native.Nat.{_+_, _*_, _/_, _%_, _≤_}
 use native.Mathlib.Omega.{arith}
 use borrow.Author.Needs.{needs}
-use Rattle.entries.proofs.Parts.{share-rest, rest-short, safe, under, beyond, grows}
-use Rattle.entries.proofs.orders.grown.Statement.{statement}
-use Rattle.entries.proofs.orders.grown.Tie as tie
+use Rattle.orders.proofs.Parts.{share-rest, rest-short, safe, under, beyond, grows}
+use Rattle.orders.proofs.grown.Statement.{statement}
+use Rattle.orders.proofs.grown.Tie as tie
 
 mul-rest : tie.Need-mul-rest
 mul-rest c =

@@ -1,9 +1,9 @@
--- `entries::orders::share` meets its contract.
+-- `orders::share` meets its contract.
 use native.Mathlib.Omega.{arith}
 use borrow.Author.Needs.{needs}
-use Rattle.entries.proofs.Parts.{share-is, share-rest}
-use Rattle.entries.proofs.orders.share.Statement.{statement}
-use Rattle.entries.proofs.orders.share.Tie as tie
+use Rattle.orders.proofs.Parts.{share-is, share-rest}
+use Rattle.orders.proofs.share.Statement.{statement}
+use Rattle.orders.proofs.share.Tie as tie
 
 mul-result : tie.Need-mul-result
 mul-result c = omega (arith, share-is (c .args .whole) (c .args .part) (c .args .n) (c .pre .0), c .pre .3)

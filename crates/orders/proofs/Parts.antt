@@ -5,7 +5,7 @@ use native.Mathlib.Decide.{decLt}
 use native.Mathlib.Nat.{div-add-mod', mul-add-div-right, mod-lt, mul-le-mul, mul-lt-mul-of-pos-right, div-lt-iff-lt-mul, le-div-iff-mul-le, mul-div-mul-right}
 use native.Mathlib.Omega.{arith}
 use borrow.Author.Tests.{le-leb, lt-leb}
-use Rattle.entries.specs.Fitting.{fitting}
+use Rattle.orders.specs.Fitting.{fitting}
 
 module _ (whole part n : ℕ) (h : 0 < n) where
   pub share-is : whole / n * part + whole % n * part / n ≡ whole * part / n
