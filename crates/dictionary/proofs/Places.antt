@@ -84,7 +84,7 @@ pub strip-kinds : (counts s : List ℕ) → IsStrip counts s → Kinds (length c
 strip-kinds counts s h = kinds-of (length counts) s (h .kinds)
 
 -- what is no kind is in no strip
-count-none : (k j : ℕ) (s : List ℕ) → Kinds k s → (j ≡ 0) ⊎ (k < j) → count j s ≡ 0
+pub count-none : (k j : ℕ) (s : List ℕ) → Kinds k s → (j ≡ 0) ⊎ (k < j) → count j s ≡ 0
 unfolding count
 count-none k j [] h o = refl
 count-none k j (x ∷ s) h o = count-miss j x s (λ e. other o e) ∙ count-none k j s (h .2) o

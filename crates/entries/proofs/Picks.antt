@@ -1,6 +1,7 @@
 -- Proofs. The strip of a number, from its first block to its last: which kind stands next, and what is left.
 use Prim.Native.Nat.{ℕ, zero, suc, _+_, _-_, _*_, _/_, _≤_, _<_}
 use mathlib.Core.Path.{_≡_, refl, sym, ap, _∙_}
+use mathlib.Core.Logic.{inl}
 use mathlib.Core.List.{List, [], _∷_, _++_, append-nil, append-assoc}
 use native.Mathlib.Nat.{add-zero, zero-div, div-eq-of-eq-mul-left, eq-of-mul-eq-mul-right, mul-add-div-right}
 use native.Mathlib.Numerals.{add-one}
@@ -13,7 +14,7 @@ use Rattle.rules.proofs.Factorials.{total-factorials, factorials-some}
 use Rattle.rules.proofs.Turned.{sum-next}
 use Rattle.dictionary.specs.Dictionary.{dictionary}
 use Rattle.dictionary.proofs.Amounts.{Kinds, kinds-at, count-hit, count-miss, lower, lower-zero, lower-suc, lower-miss, amountsFrom, amounts, amounts-at, length-amounts, miss, sum-amounts, orders, orders-none}
-use Rattle.dictionary.proofs.Places.{rank, dictRank, listed}
+use Rattle.dictionary.proofs.Places.{count-none, rank, dictRank, listed}
 use Rattle.entries.specs.Picking.{Picked}
 
 -- ---- one block of kind y (from 0) less
@@ -75,14 +76,9 @@ amounts-more j (suc k) (suc y) s h =
     let e : j + suc y ≡ suc j + y = omega arith in
     rw (e, count-miss j (suc j + y) s (λ f. omega arith), amounts-more (suc j) k y s (omega arith))
 
-no-zero : (k : ℕ) (s : List ℕ) → Kinds k s → count 0 s ≡ 0
-unfolding count
-no-zero k [] h = refl
-no-zero k (x ∷ s) h = count-miss 0 x s (λ e. omega (arith, h .0)) ∙ no-zero k s (h .2)
-
 lower-sum : (k y : ℕ) (s : List ℕ) → Kinds k s → y ≤ k → lower (suc y) s ≡ sum (take y (amounts k s))
 unfolding sum
-lower-sum k zero s h l = omega (arith, lower-suc 0 s, lower-zero s, no-zero k s h)
+lower-sum k zero s h l = omega (arith, lower-suc 0 s, lower-zero s, count-none k 0 s h (inl refl))
 lower-sum k (suc y) s h l =
     let e : 1 + y ≡ suc y = omega arith in
     omega (arith, lower-suc (suc y) s, lower-sum k y s h (omega arith), sum-next (amounts k s) y (omega (arith, length-amounts 1 k s)), rw e at (amounts-at 1 k y s (omega arith)))
