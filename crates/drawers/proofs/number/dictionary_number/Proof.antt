@@ -1,29 +1,24 @@
 -- `drawers::number::dictionary_number` meets its contract: the checks in the order of its refusals, then the place.
-use Prim.Native.Nat.{ℕ, _^_, _<_}
-use mathlib.Core.Path.{_≡_, ap, _∙_}
-use mathlib.Core.List.{List, []}
+use Prim.Native.Nat.{ℕ}
+use mathlib.Core.Path.{ap, _∙_}
+use mathlib.Core.List.{List}
 use native.Mathlib.Omega.{arith}
 use borrow.Author.Needs.{needs}
-use Rattle.rules.specs.Stock.{total}
-use Rattle.rules.specs.Refusals.{fine, firstOf, checkNos}
-use Rattle.rules.proofs.Refusals.{answer-refused, answer-next, answer-row, answer-last, many-refused, many-passed}
-use Rattle.rules.proofs.Checks.{accepted-both}
-use Rattle.rules.proofs.Prefixes.{zero-many, some-few}
+use Rattle.rules.specs.Book.{placeIn}
+use Rattle.rules.specs.Refusals.{fine}
 use Rattle.stock.specs.declared.Refusal.{Refusal}
-use Rattle.stock.proofs.Tested.{passed, stopped}
-use Rattle.numbering.specs.Answers.{numberNos}
+use Rattle.numbering.proofs.Answered.{refused, good, many, few, numbered}
+use Rattle.dictionary.specs.Dictionary.{dictionary}
 use Rattle.drawers.specs.Answers.{asFiled, dictionaryNumberAnswer}
 use Rattle.drawers.proofs.number.dictionary_number.Statement.{statement}
 use Rattle.drawers.proofs.number.dictionary_number.Tie as tie
 
 -- 1 to 6 refuse
 returns : tie.Need-returns
-unfolding dictionaryNumberAnswer numberNos
+unfolding dictionaryNumberAnswer
 returns c =
-    let a = c .before .before .before .before .args in
-    let k = checkNos (a .stock .now) (a .strip .now) in
     let e = c .before .check-strip .ensures in
-    ap (λ (r : Refusal). record { refusal = r; number = 0 }) e ∙ answer-refused asFiled 0 _ k _ (stopped k _ e (omega arith))
+    ap (λ (r : Refusal). record { refusal = r; number = 0 }) e ∙ refused asFiled _ _ _ _ e (omega arith)
 
 -- past them: the stock and the strip are accepted, and 7 decides
 module _ (c : tie.Else1) where
@@ -33,28 +28,28 @@ module _ (c : tie.Else1) where
   abbrev strip : List ℕ
   strip = c .before .before .before .before .args .strip .now
 
-  none-yet : firstOf (checkNos counts strip) .0 ≡ 0
-  none-yet = passed (checkNos counts strip) _ (c .before .check-strip .ensures) (omega arith)
+  abbrev place : ℕ
+  place = placeIn (dictionary counts) strip
 
 entry-of-requires : tie.Need-entry-of-requires
-entry-of-requires c κs = accepted-both (counts c) (strip c) (none-yet c)
+entry-of-requires c κs = good asFiled (counts c) (strip c) (place c) _ (c .before .check-strip .ensures) (omega arith)
 
 returns-2 : tie.Need-returns-2
-unfolding dictionaryNumberAnswer numberNos
+unfolding dictionaryNumberAnswer
 returns-2 c =
-    let b = c .before .before .before in
-    answer-row asFiled 0 _ 6 0 _ [] (many-refused (counts b) (zero-many (counts b) _ (c .before .before .entry-of .ensures .0) (omega arith)))
-    ∙ answer-next asFiled 0 _ (checkNos (counts b) (strip b)) _ (none-yet b)
+    let t = c .before .before in
+    let b = t .before in
+    many asFiled (counts b) (strip b) (place b) _ (b .before .check-strip .ensures) (omega arith) _ (t .entry-of .ensures .0) (omega arith)
 
 returns-3 : tie.Need-returns-3
-unfolding dictionaryNumberAnswer numberNos
+unfolding dictionaryNumberAnswer
 returns-3 c =
-    let b = c .before .before .before in
-    let e = c .before .before .entry-of .ensures in
-    let few : total (counts b) < 2 ^ 64 = some-few _ _ (e .0) (omega arith) in
-    ap (asFiled fine) (e .1 few)
-    ∙ answer-last asFiled 0 _ _ (many-passed (counts b) few)
-    ∙ answer-next asFiled 0 _ (checkNos (counts b) (strip b)) _ (none-yet b)
+    let t = c .before .before in
+    let b = t .before in
+    let e = t .entry-of .ensures in
+    let i = b .before .check-strip .ensures in
+    ap (asFiled fine) (e .1 (few asFiled (counts b) (strip b) (place b) _ i (omega arith) _ (e .0) (omega arith)))
+    ∙ numbered asFiled (counts b) (strip b) (place b) _ i (omega arith) _ (e .0) (omega arith)
 
 pub dictionary-number-spec : {M : Type 1} → statement M
 dictionary-number-spec = tie.close (tie.spec (λ c κs. search needs) returns entry-of-requires returns-2 returns-3)
