@@ -10,7 +10,10 @@
 #include "nelfrupi.h"
 #include "plain.h"
 
-enum { ROOM = 50000, STRIPS = 64, TIMES = 20, ROUNDS = 5, WAYS = 4, STOCKS = 4 };
+enum { ROOM = 50000, STRIPS = 64, TIMES = 20, ROUNDS = 5, STOCKS = 4 };
+
+/* The ways through the strips of a stock, on, and back again over what the first two have made. */
+enum { RUN, LEFT, RECURSION, DICTIONARY, ON, RUN_BACK = ON, LEFT_BACK, WAYS };
 
 typedef struct {
     const char *title;
@@ -40,29 +43,32 @@ static void must(bool so, const char *what)
     }
 }
 
-/* ---- so many moves on, as many as the list has room for at most */
+/* ---- so many moves, as many as the list has room for at most */
 
-typedef void moving(const work *w, way *v, size_t moves);
+typedef void moving(const work *w, way *v, size_t moves, bool back);
 
-static void by_run(const work *w, way *v, size_t moves)
+static void by_run(const work *w, way *v, size_t moves, bool back)
 {
-    nelfrupi_ran ran = nelfrupi_run(w->stock, w->kinds, v->strip, w->n, v->walker, v->list, 2 * moves);
+    nelfrupi_ran ran = nelfrupi_run(w->stock, w->kinds, v->strip, w->n, v->walker, back, v->list, 2 * moves);
     must(ran.refusal.no == 0 && ran.moves == moves, "Run stops");
     v->walker = ran.walker;
 }
 
-static void by_left_rule(const work *w, way *v, size_t moves)
+static void by_left_rule(const work *w, way *v, size_t moves, bool back)
 {
-    must(run_by_left(w->stock, w->kinds, v->strip, w->n, v->walker.back, v->list, moves) == moves, "the book ends");
+    plain_run *run = back ? run_back_by_left : run_by_left;
+    must(run(w->stock, w->kinds, v->strip, w->n, v->walker.back, v->list, moves) == moves, "the book ends");
 }
 
-static void by_rule(const work *w, way *v, size_t moves)
+static void by_rule(const work *w, way *v, size_t moves, bool back)
 {
+    must(!back, "there is no way back by the recursion");
     must(run_by_recursion(w->stock, w->kinds, v->strip, w->n, v->walker.back, v->list, moves) == moves, "the book ends");
 }
 
-static void by_dictionary(const work *w, way *v, size_t moves)
+static void by_dictionary(const work *w, way *v, size_t moves, bool back)
 {
+    must(!back, "there is no way back through the dictionary");
     for (size_t i = 0; i < moves; i++) {
         must(step_by_dictionary(v->strip, w->n), "the dictionary ends");
     }
@@ -97,10 +103,10 @@ static void opened(work *w, size_t i)
     w->walkers[i] = nelfrupi_open(w->stock, w->kinds, w->strips[i], w->n).walker;
 }
 
-static void forward(work *w, size_t i)
+static void walk(work *w, size_t i)
 {
-    nelfrupi_moved moved = nelfrupi_forward(w->stock, w->kinds, w->reached, w->n, w->walker);
-    must(moved.refusal.no == 0, "Forward refuses");
+    nelfrupi_moved moved = nelfrupi_walk(w->stock, w->kinds, w->reached, w->n, w->walker, false);
+    must(moved.refusal.no == 0, "Walk refuses");
     w->walker = moved.walker;
     (void)i;
 }
@@ -166,7 +172,7 @@ static double least(call *made, work *w)
     return best;
 }
 
-/* ---- the input, and the tables */
+/* ---- the input, and what is measured */
 
 /* The first strip, and strips in no order, the same in each run: shuffled by a generator of fixed constants. */
 static void prepare(work *w)
@@ -186,13 +192,23 @@ static void prepare(work *w)
     }
 }
 
-/* One list of moves each way, in turn, so that what else the machine does falls on all of them. */
-static void go_on(const work *w, way *ways, size_t moves)
+static void stand(way *v, const uint8_t *strip, nelfrupi_walker walker, size_t n)
 {
-    static moving *const movings[WAYS] = {by_run, by_left_rule, by_rule, by_dictionary};
+    memcpy(v->strip, strip, n);
+    v->walker = walker;
+}
+
+/* One list of moves each way, in turn, so that what else the machine does falls on all of them. */
+static void go(const work *w, way *ways, size_t moves)
+{
+    static moving *const movings[WAYS] = {by_run, by_left_rule, by_rule, by_dictionary, by_run, by_left_rule};
     for (int i = 0; i < WAYS; i++) {
+        bool back = i >= ON;
+        if (back) {
+            stand(&ways[i], ways[i - ON].strip, ways[i - ON].walker, w->n);
+        }
         double began = now();
-        movings[i](w, &ways[i], moves);
+        movings[i](w, &ways[i], moves, back);
         ways[i].took += now() - began;
     }
 }
@@ -200,35 +216,67 @@ static void go_on(const work *w, way *ways, size_t moves)
 /* The ways through the book must come to the same strip by the same places. */
 static void hold_together(const work *w, const way *ways, size_t moves)
 {
-    for (int i = 1; i < WAYS - 1; i++) {
-        must(memcmp(ways[0].strip, ways[i].strip, w->n) == 0, "Run and plain C come to different strips");
-        must(memcmp(ways[0].list, ways[i].list, 2 * moves) == 0, "Run and plain C list different places");
+    for (int i = LEFT; i <= RECURSION; i++) {
+        must(memcmp(ways[RUN].strip, ways[i].strip, w->n) == 0, "Run and plain C come to different strips");
+        must(memcmp(ways[RUN].list, ways[i].list, 2 * moves) == 0, "Run and plain C list different places");
+    }
+}
+
+/* Those back must come to where the moves on began, by the same places in reverse order. */
+static void hold_back(const work *w, const way *ways, const uint8_t *began, size_t moves)
+{
+    for (int i = RUN_BACK; i <= LEFT_BACK; i++) {
+        must(memcmp(began, ways[i].strip, w->n) == 0, "the way back ends elsewhere");
+        for (size_t m = 0; m < moves; m++) {
+            const uint8_t *there = ways[RUN].list + 2 * (moves - 1 - m), *back = ways[i].list + 2 * m;
+            must(there[0] == back[0] && there[1] == back[1], "the way back lists different places");
+        }
     }
 }
 
 static void walk_all(const work *w, way *ways)
 {
+    uint8_t began[64];
     for (uint64_t made = 0; made < w->moves;) {
         size_t moves = w->moves - made < ROOM ? (size_t)(w->moves - made) : ROOM;
-        go_on(w, ways, moves);
+        memcpy(began, ways[RUN].strip, w->n);
+        go(w, ways, moves);
         hold_together(w, ways, moves);
+        hold_back(w, ways, began, moves);
         made += moves;
     }
 }
 
-static double print_moves(const work *w)
+/* What a move takes each way, in nanoseconds. */
+static void measure_moves(const work *w, double *took)
 {
     static way ways[WAYS];
     for (int i = 0; i < WAYS; i++) {
-        ways[i] = (way){.took = 0};
-        memcpy(ways[i].strip, w->first, w->n);
+        ways[i].took = 0;
+        stand(&ways[i], w->first, (nelfrupi_walker){{false}}, w->n);
     }
     walk_all(w, ways);
-    double run = ways[0].took, left = ways[1].took, recursion = ways[2].took, dictionary = ways[3].took;
-    double moves = (double)w->moves;
-    printf("%-12s%12.0f%11.1f%11.1f%11.1f%11.1f%11.2f%11.2f%11.2f\n", w->title, moves, run / moves, left / moves,
-           recursion / moves, dictionary / moves, run / left, run / recursion, run / dictionary);
-    return run / moves;
+    for (int i = 0; i < WAYS; i++) {
+        took[i] = ways[i].took / (double)w->moves;
+    }
+}
+
+static void print_on(const work *w, const double *took)
+{
+    printf("%-12s%12.0f", w->title, (double)w->moves);
+    for (int i = RUN; i < ON; i++) {
+        printf("%11.1f", took[i]);
+    }
+    for (int i = LEFT; i < ON; i++) {
+        printf("%11.2f", took[RUN] / took[i]);
+    }
+    printf("\n");
+}
+
+static void print_back(const work *w, const double *took)
+{
+    printf("%-12s%11.1f%11.1f%11.2f%11.2f\n", w->title, took[RUN_BACK], took[LEFT_BACK], took[RUN_BACK] / took[RUN],
+           took[RUN_BACK] / took[LEFT_BACK]);
 }
 
 /* Two ways from strips to numbers and back must agree. Gives nanoseconds of the first, and how many times as long it takes
@@ -250,7 +298,7 @@ static void hold_numbers(work *w, call *to_number[2], call *to_strip[2], double 
 
 static void print_calls(work *w)
 {
-    printf("%-12s%9.0f%9.0f", w->title, least(opened, w), least(forward, w));
+    printf("%-12s%9.0f%9.0f", w->title, least(opened, w), least(walk, w));
     if (!w->numbered) {
         printf("%9s%9s%12s%12s\n", "-", "-", "-", "-");
         return;
@@ -284,31 +332,34 @@ static void print_filed(work *w)
     print_next(w);
 }
 
-int main(int count, char **arguments)
+/* ---- the tables */
+
+static void print_moves(work *works, uint64_t most)
 {
-    static work works[STOCKS] = {
-        {.title = "3 3 3 3 3", .kinds = 5, .stock = {3, 3, 3, 3, 3}, .moves = 168167999},
-        {.title = "2 3 5 2 3", .kinds = 5, .stock = {2, 3, 5, 2, 3}, .moves = 75675599},
-        {.title = "32 32", .kinds = 2, .stock = {32, 32}, .moves = 20000000},
-        {.title = "sixteen 4s", .kinds = 16, .stock = {4, 4, 4, 4, 4, 4, 4, 4, 4, 4, 4, 4, 4, 4, 4, 4}, .moves = 20000000},
-    };
-    uint64_t most = count > 1 ? strtoull(arguments[1], NULL, 10) * 1000000 : UINT64_MAX;
-    must(most > 0, "MILLIONS is a number from 1 on");
-    double run[STOCKS];
-    fill_binomials();
+    static double took[STOCKS][WAYS];
     printf("A move, from the first strip on: nanoseconds of Run, of plain C by the left rule, by the recursion and in\n"
            "dictionary order; and how many times as long Run takes as each.\n\n");
     printf("%-12s%12s%11s%11s%11s%11s%11s%11s%11s\n", "stock", "moves", "Run", "left", "recursion", "dictionary", "left",
            "recursion", "dictionary");
     for (size_t i = 0; i < STOCKS; i++) {
-        prepare(&works[i]);
         works[i].moves = works[i].moves < most ? works[i].moves : most;
-        run[i] = print_moves(&works[i]);
+        measure_moves(&works[i], took[i]);
+        print_on(&works[i], took[i]);
     }
-    printf("\nA move of Run of 32 32 takes %.2f times as long as one of 3 3 3 3 3.\n", run[2] / run[0]);
-    printf("\nA call: nanoseconds, of Forward from the first strip on, of the others on strips in no order; and how many times\n"
+    printf("\nA move of Run of 32 32 takes %.2f times as long as one of 3 3 3 3 3.\n", took[2][RUN] / took[0][RUN]);
+    printf("\nA move back over the same strips: nanoseconds of Run and of plain C by the left rule; and how many times as long\n"
+           "Run takes back as on, and as that plain C.\n\n");
+    printf("%-12s%11s%11s%11s%11s\n", "stock", "Run", "left", "on", "left");
+    for (size_t i = 0; i < STOCKS; i++) {
+        print_back(&works[i], took[i]);
+    }
+}
+
+static void print_all_calls(work *works)
+{
+    printf("\nA call: nanoseconds, of Walk from the first strip on, of the others on strips in no order; and how many times\n"
            "as long Number and Strip take as plain C. Each call checks its input; plain C checks nothing.\n\n");
-    printf("%-12s%9s%9s%9s%9s%12s%12s\n", "stock", "Open", "Forward", "Number", "Strip", "Number", "Strip");
+    printf("%-12s%9s%9s%9s%9s%12s%12s\n", "stock", "Open", "Walk", "Number", "Strip", "Number", "Strip");
     for (size_t i = 0; i < STOCKS; i++) {
         print_calls(&works[i]);
     }
@@ -321,5 +372,23 @@ int main(int count, char **arguments)
     for (size_t i = 0; i < STOCKS; i++) {
         print_filed(&works[i]);
     }
+}
+
+int main(int count, char **arguments)
+{
+    static work works[STOCKS] = {
+        {.title = "3 3 3 3 3", .kinds = 5, .stock = {3, 3, 3, 3, 3}, .moves = 168167999},
+        {.title = "2 3 5 2 3", .kinds = 5, .stock = {2, 3, 5, 2, 3}, .moves = 75675599},
+        {.title = "32 32", .kinds = 2, .stock = {32, 32}, .moves = 20000000},
+        {.title = "sixteen 4s", .kinds = 16, .stock = {4, 4, 4, 4, 4, 4, 4, 4, 4, 4, 4, 4, 4, 4, 4, 4}, .moves = 20000000},
+    };
+    uint64_t most = count > 1 ? strtoull(arguments[1], NULL, 10) * 1000000 : UINT64_MAX;
+    must(most > 0, "MILLIONS is a number from 1 on");
+    fill_binomials();
+    for (size_t i = 0; i < STOCKS; i++) {
+        prepare(&works[i]);
+    }
+    print_moves(works, most);
+    print_all_calls(works);
     return 0;
 }

@@ -154,14 +154,15 @@ static void word_lay(uint8_t *word, size_t a, uint8_t kind, size_t others, uint6
 
 /* ---- the book of a stock */
 
-/* The next strip of the book, with the directions of its kinds and the places, from 1, of the two blocks that are
- * exchanged; false on the last. */
-ALWAYS bool book_next(finder *find, const uint16_t *stock, size_t kinds, uint8_t *strip, size_t n, bool *back,
-                      uint8_t *places)
+/* The next strip of the book, or the one before it, with the directions of its kinds and the places, from 1, of the two
+ * blocks that are exchanged; false where there is none. */
+ALWAYS bool book_beside(finder *find, bool before, const uint16_t *stock, size_t kinds, uint8_t *strip, size_t n,
+                        bool *back, uint8_t *places)
 {
     size_t lo = 0, hi = n;
     for (size_t j = kinds; j-- > 0;) {
-        plain_step step = find(strip + lo, hi - lo, (uint8_t)(j + 1), hi - lo - stock[j], back[j]);
+        bool heading = back[j] != before;
+        plain_step step = find(strip + lo, hi - lo, (uint8_t)(j + 1), hi - lo - stock[j], heading);
         if (step.found) {
             exchange(strip, lo + step.low, lo + step.high);
             places[0] = (uint8_t)(lo + step.low + 1);
@@ -171,7 +172,7 @@ ALWAYS bool book_next(finder *find, const uint16_t *stock, size_t kinds, uint8_t
             }
             return true;
         }
-        if (back[j]) {
+        if (heading) {
             hi -= stock[j];
         } else {
             lo += stock[j];
@@ -180,27 +181,36 @@ ALWAYS bool book_next(finder *find, const uint16_t *stock, size_t kinds, uint8_t
     return false;
 }
 
-/* Moves on as Run does: answers how many moves there are, at most as many as the list has room for. */
-ALWAYS size_t book_run(finder *find, const uint16_t *stock, size_t kinds, uint8_t *strip, size_t n, bool *back,
-                       uint8_t *list, size_t room)
+/* Moves as Run does: answers how many moves there are, at most as many as the list has room for. */
+ALWAYS size_t book_run(finder *find, bool before, const uint16_t *stock, size_t kinds, uint8_t *strip, size_t n,
+                       bool *back, uint8_t *list, size_t room)
 {
     size_t moves = 0;
-    while (moves < room && book_next(find, stock, kinds, strip, n, back, list + 2 * moves)) {
+    while (moves < room && book_beside(find, before, stock, kinds, strip, n, back, list + 2 * moves)) {
         moves++;
     }
     return moves;
 }
 
+typedef size_t plain_run(const uint16_t *stock, size_t kinds, uint8_t *strip, size_t n, bool *back, uint8_t *list,
+                         size_t room);
+
 CALLED size_t run_by_recursion(const uint16_t *stock, size_t kinds, uint8_t *strip, size_t n, bool *back, uint8_t *list,
                                size_t room)
 {
-    return book_run(by_recursion, stock, kinds, strip, n, back, list, room);
+    return book_run(by_recursion, false, stock, kinds, strip, n, back, list, room);
 }
 
 CALLED size_t run_by_left(const uint16_t *stock, size_t kinds, uint8_t *strip, size_t n, bool *back, uint8_t *list,
                           size_t room)
 {
-    return book_run(by_left, stock, kinds, strip, n, back, list, room);
+    return book_run(by_left, false, stock, kinds, strip, n, back, list, room);
+}
+
+CALLED size_t run_back_by_left(const uint16_t *stock, size_t kinds, uint8_t *strip, size_t n, bool *back, uint8_t *list,
+                               size_t room)
+{
+    return book_run(by_left, true, stock, kinds, strip, n, back, list, room);
 }
 
 CALLED uint64_t book_number(const uint16_t *stock, size_t kinds, const uint8_t *strip, size_t n)

@@ -45,7 +45,7 @@ static bool print_next(const uint16_t *stock, size_t kinds, const uint8_t *strip
         shown[i] = moved[i] = strip[i];
     }
     nelfrupi_opened opened = nelfrupi_open(stock, kinds, strip, length);
-    nelfrupi_ran ran = nelfrupi_run(stock, kinds, moved, length, opened.walker, list, sizeof list);
+    nelfrupi_ran ran = nelfrupi_run(stock, kinds, moved, length, opened.walker, false, list, sizeof list);
     if (!accepted(ran.refusal)) {
         return false;
     }
@@ -56,7 +56,7 @@ static bool print_next(const uint16_t *stock, size_t kinds, const uint8_t *strip
         print_strip(number + m + 1, shown, length);
         printf(" by exchanging places %u and %u\n", (unsigned)low, (unsigned)high);
     }
-    if (ran.last) {
+    if (ran.ended) {
         printf("the book ends here\n");
     }
     return true;

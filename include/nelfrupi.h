@@ -175,37 +175,33 @@ typedef struct {
     nelfrupi_walker walker;
 } nelfrupi_moved;
 
-/* Forward and Back: the lent strip becomes the next strip of the book, or the one before it. The walker is the strip's
- * own; the answer has the one of the new strip.
+/* Walk: the lent strip becomes the next strip of the book, or where back is true the one before it. The walker is the
+ * strip's own; the answer has the one of the new strip.
  * Refused: 1, 2, 3, 4, 5, 6, 10, 9; the strip is then as it was. */
-nelfrupi_moved nelfrupi_forward(const uint16_t *stock, size_t kinds, uint8_t *strip, size_t length,
-                                nelfrupi_walker walker);
-nelfrupi_moved nelfrupi_back(const uint16_t *stock, size_t kinds, uint8_t *strip, size_t length,
-                             nelfrupi_walker walker);
+nelfrupi_moved nelfrupi_walk(const uint16_t *stock, size_t kinds, uint8_t *strip, size_t length,
+                             nelfrupi_walker walker, bool back);
 
-/* The same moves for a driver that lends its walker: the answer is that of nelfrupi_forward or nelfrupi_back, and the
- * lent walker becomes the one in the answer, so that the next call can take it as it stands.
+/* The same move for a driver that lends its walker: the answer is that of nelfrupi_walk, and the lent walker becomes the
+ * one in the answer, so that the next call can take it as it stands.
  * Refused: 1, 2, 3, 4, 5, 6, 10, 9; the strip and the walker are then as they were. */
-nelfrupi_moved nelfrupi_drive_forward(const uint16_t *stock, size_t kinds, uint8_t *strip, size_t length,
-                                      nelfrupi_walker *walker);
-nelfrupi_moved nelfrupi_drive_back(const uint16_t *stock, size_t kinds, uint8_t *strip, size_t length,
-                                   nelfrupi_walker *walker);
+nelfrupi_moved nelfrupi_drive(const uint16_t *stock, size_t kinds, uint8_t *strip, size_t length,
+                              nelfrupi_walker *walker, bool back);
 
 typedef struct {
     nelfrupi_refusal refusal;
     uint64_t moves;
-    bool last; /* whether the strip is now the last of the book */
+    bool ended; /* whether the strip is now the last of the book, or where back was true its strip 0 */
     nelfrupi_walker walker;
 } nelfrupi_ran;
 
-/* Run: moves the lent strip on, move by move, and writes the two places of each move, smaller first, into the list. It
- * stops when the list has no room for two places more, or on the last strip of the book. So a list of 2 m bytes, or of
- * one byte more, has room for m moves. The answer has the moves made and the walker of the strip as it then stands; the
- * bytes of the list after two for each move are as they were. No room, and a start on the last strip, are no refusals:
- * it then makes 0 moves.
+/* Run: moves the lent strip on, or where back is true back, move by move, and writes the two places of each move, smaller
+ * first, into the list. It stops when the list has no room for two places more, or on the last strip of the book, or
+ * going back on strip 0. So a list of 2 m bytes, or of one byte more, has room for m moves. The answer has the moves made
+ * and the walker of the strip as it then stands; the bytes of the list after two for each move are as they were. No room,
+ * and a start at that end of the book, are no refusals: it then makes 0 moves.
  * Refused: 1, 2, 3, 4, 5, 6, 10; the strip and the list are then as they were. */
 nelfrupi_ran nelfrupi_run(const uint16_t *stock, size_t kinds, uint8_t *strip, size_t length, nelfrupi_walker walker,
-                          uint8_t *list, size_t list_length);
+                          bool back, uint8_t *list, size_t list_length);
 
 /* ---- press sheets, also where T is 2^64 or more
  *

@@ -2,7 +2,7 @@
 -- That each call takes any input and comes back is what its own proof says: no call has a `requires`.
 use Prim.Native.Nat.{ℕ}
 use mathlib.Core.Path.{_≡_, ap, _∙_}
-use mathlib.Core.Bool.{Bool, true, false}
+use mathlib.Core.Bool.{Bool, false}
 use mathlib.Core.List.{List}
 use lib.IntN.{pos}
 use contract.Lifetimes.{Lfts}
@@ -62,11 +62,9 @@ use Rattle.walker.proofs.open.open.Kinds as opening
 use Rattle.walker.proofs.open.open.Reads as opening-reads
 use Rattle.walking.specs.declared.Moved.{Moved}
 use Rattle.walking.specs.Answers.{moveNos, moveAnswer}
-use Rattle.walking.proofs.Theorems.{forward-right, back-right}
-use Rattle.walking.proofs.forward.forward.Kinds as forward
-use Rattle.walking.proofs.forward.forward.Reads as forward-reads
-use Rattle.walking.proofs.back.back.Kinds as back
-use Rattle.walking.proofs.back.back.Reads as back-reads
+use Rattle.walking.proofs.Theorems.{walk-right}
+use Rattle.walking.proofs.walk.walk.Kinds as walk
+use Rattle.walking.proofs.walk.walk.Reads as walk-reads
 use Rattle.exports.proofs.Theorems.{Allowed, drive-right}
 use Rattle.running.specs.declared.run.Ran.{Ran}
 use Rattle.running.specs.Answers.{runAnswer}
@@ -174,19 +172,14 @@ pub open-refuses : (κs : Lfts 2) (a : Dens κs opening.ps) (r : Opened) (s : At
 unfolding openAnswer
 open-refuses κs a r s h = record { named = ap (λ (r : Opened). r .refusal) h; left = refused-forward κs a r s h }
 
--- ---- Forward, Back: 1 to 6, 10, 9. The strip stays, and the walker is the one lent
+-- ---- Walk, in the direction of the call: 1 to 6, 10, 9. The strip stays, and the walker is the one lent
 
-pub forward-refuses : (κs : Lfts 2) (a : Dens κs forward.ps) (r : Moved) (s : AtExit (endedOf 2 forward.ps forward.r) κs) → forward-reads.Post κs a r s
-    → Refuses (moveNos false (a .0 .now) (a .1 .0 .now) (a .1 .1 .0)) (r .refusal) ((r .low ≡ 0) × (r .high ≡ 0) × (r .walker ≡ a .1 .1 .0) × (s .1 .0 .now ≡ a .1 .0 .now))
+pub walk-refuses : (κs : Lfts 2) (a : Dens κs walk.ps) (r : Moved) (s : AtExit (endedOf 2 walk.ps walk.r) κs) → walk-reads.Post κs a r s
+    → Refuses (moveNos (a .1 .1 .1 .0) (a .0 .now) (a .1 .0 .now) (a .1 .1 .0)) (r .refusal) ((r .low ≡ 0) × (r .high ≡ 0) × (r .walker ≡ a .1 .1 .0) × (s .1 .0 .now ≡ a .1 .0 .now))
 unfolding moveAnswer
-forward-refuses κs a r s h = record { named = ap (λ (r : Moved). r .refusal) (h .0); left = forward-right κs a r s h .refused }
+walk-refuses κs a r s h = record { named = ap (λ (r : Moved). r .refusal) (h .0); left = walk-right κs a r s h .refused }
 
-pub back-refuses : (κs : Lfts 2) (a : Dens κs back.ps) (r : Moved) (s : AtExit (endedOf 2 back.ps back.r) κs) → back-reads.Post κs a r s
-    → Refuses (moveNos true (a .0 .now) (a .1 .0 .now) (a .1 .1 .0)) (r .refusal) ((r .low ≡ 0) × (r .high ≡ 0) × (r .walker ≡ a .1 .1 .0) × (s .1 .0 .now ≡ a .1 .0 .now))
-unfolding moveAnswer
-back-refuses κs a r s h = record { named = ap (λ (r : Moved). r .refusal) (h .0); left = back-right κs a r s h .refused }
-
--- ---- the press driver's form: as Forward (at false) and Back (at true), and what it leaves in the lent walker is the one lent
+-- ---- the press driver's form: as Walk, and what it leaves in the lent walker is the one lent
 
 pub drive-refuses : (d : Bool) (counts s : List ℕ) (w : Walker) (r : Moved) (t : List ℕ) (v : Walker) → Allowed d counts s w r t v
     → Refuses (moveNos d counts s w) (r .refusal) ((r .low ≡ 0) × (r .high ≡ 0) × (r .walker ≡ w) × (t ≡ s) × (v ≡ w))
@@ -200,7 +193,7 @@ drive-refuses d counts s w r t v h = record {
 
 pub run-refuses : (κs : Lfts 3) (a : Dens κs run.ps) (r : Ran) (s : AtExit (endedOf 3 run.ps run.r) κs) → run-reads.Post κs a r s
     → Refuses (walkerNos (a .0 .now) (a .1 .0 .now) (a .1 .1 .0)) (r .refusal)
-    ((r .moves ≡ 0) × (r .last ≡ false) × (r .walker ≡ a .1 .1 .0) × (s .1 .0 .now ≡ a .1 .0 .now) × (s .1 .1 .1 .0 .now ≡ a .1 .1 .1 .0 .now))
+    ((r .moves ≡ 0) × (r .ended ≡ false) × (r .walker ≡ a .1 .1 .0) × (s .1 .0 .now ≡ a .1 .0 .now) × (s .1 .1 .1 .1 .0 .now ≡ a .1 .1 .1 .1 .0 .now))
 unfolding runAnswer
 run-refuses κs a r s h = record { named = ap (λ (r : Ran). r .refusal) (h .0); left = run-right κs a r s h .refused }
 

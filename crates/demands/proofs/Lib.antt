@@ -3,4 +3,5 @@ pub mod First
 pub mod Second
 pub mod Third
 pub mod Drawers
+pub mod Pedal
 pub mod Outcomes

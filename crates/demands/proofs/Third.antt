@@ -13,11 +13,11 @@ use Rattle.walker.specs.Walkers.{walkerOf}
 use Rattle.walker.specs.Answers.{openAnswer}
 use Rattle.walking.specs.Walks.{after, numberAfter, StayBelow}
 use Rattle.walking.proofs.Theorems.{walk-shows}
--- that a move of `after` leaves the strip and the walker that Forward, Back and the driver leave, by any outcome that their contracts allow
-pub use Rattle.walking.proofs.Theorems.{forward-after, back-after}
+-- that a move of `after` in the direction of the call leaves the strip and the walker that Walk and the driver leave, by any outcome that their contracts allow
+pub use Rattle.walking.proofs.Theorems.{walk-after}
 pub use Rattle.exports.proofs.Theorems.{drive-after}
 -- what else such an outcome is, and that Run's moves are the change in number
-pub use Rattle.walking.proofs.Theorems.{forward-right, back-right}
+pub use Rattle.walking.proofs.Theorems.{walk-right}
 pub use Rattle.exports.proofs.Theorems.{drive-right}
 pub use Rattle.running.proofs.Theorems.{run-right}
 

@@ -1,5 +1,5 @@
 -- One outcome for each call for C, over its own contract as the checker reads it. That contract is the one of the call that is passed on, so that call's theorem
--- is the proof. The press driver's calls have theirs in `Theorems.antt`.
+-- is the proof. The press driver's call has its own in `Theorems.antt`.
 use Prim.Native.Nat.{ℕ}
 use mathlib.Core.List.{List}
 use Rattle.rules.specs.Outcome.{OneAnswer, OneOutcome}
@@ -10,7 +10,7 @@ use Rattle.converting.proofs.Theorems.{to-dictionary-one-outcome, to-book-one-o
 use Rattle.comparing.proofs.Theorems.{which-one-outcome}
 use Rattle.measuring.proofs.Theorems.{distance-one-outcome}
 use Rattle.walker.proofs.Theorems.{one-outcome as open-one-outcome}
-use Rattle.walking.proofs.Theorems.{forward-one-outcome, back-one-outcome}
+use Rattle.walking.proofs.Theorems.{walk-one-outcome}
 use Rattle.running.proofs.Theorems.{run-one-outcome}
 use Rattle.papers.proofs.Theorems.{one-outcome as same-paper-one-outcome}
 use Rattle.writing.proofs.Theorems.{one-outcome as write-sheet-one-outcome}
@@ -39,10 +39,8 @@ use Rattle.exports.proofs.nelfrupi_distance.Kinds as distance
 use Rattle.exports.proofs.nelfrupi_distance.Reads as distance-reads
 use Rattle.exports.proofs.nelfrupi_open.Kinds as opening
 use Rattle.exports.proofs.nelfrupi_open.Reads as opening-reads
-use Rattle.exports.proofs.nelfrupi_forward.Kinds as forward
-use Rattle.exports.proofs.nelfrupi_forward.Reads as forward-reads
-use Rattle.exports.proofs.nelfrupi_back.Kinds as back
-use Rattle.exports.proofs.nelfrupi_back.Reads as back-reads
+use Rattle.exports.proofs.nelfrupi_walk.Kinds as walk
+use Rattle.exports.proofs.nelfrupi_walk.Reads as walk-reads
 use Rattle.exports.proofs.nelfrupi_run.Kinds as run
 use Rattle.exports.proofs.nelfrupi_run.Reads as run-reads
 use Rattle.exports.proofs.nelfrupi_same_paper.Kinds as same-paper
@@ -88,13 +86,10 @@ distance-one-outcome-for-c = distance-one-outcome
 pub open-one-outcome-for-c : OneAnswer 2 opening.ps opening.r opening-reads.Post
 open-one-outcome-for-c = open-one-outcome
 
-pub forward-one-outcome-for-c : OneOutcome 2 forward.ps forward.r (λ κs s. s .1 .0 .now) forward-reads.Post
-forward-one-outcome-for-c = forward-one-outcome
+pub walk-one-outcome-for-c : OneOutcome 2 walk.ps walk.r (λ κs s. s .1 .0 .now) walk-reads.Post
+walk-one-outcome-for-c = walk-one-outcome
 
-pub back-one-outcome-for-c : OneOutcome 2 back.ps back.r (λ κs s. s .1 .0 .now) back-reads.Post
-back-one-outcome-for-c = back-one-outcome
-
-pub run-one-outcome-for-c : OneOutcome 3 run.ps run.r {C = List ℕ × List ℕ} (λ κs s. (s .1 .0 .now, s .1 .1 .1 .0 .now)) run-reads.Post
+pub run-one-outcome-for-c : OneOutcome 3 run.ps run.r {C = List ℕ × List ℕ} (λ κs s. (s .1 .0 .now, s .1 .1 .1 .1 .0 .now)) run-reads.Post
 run-one-outcome-for-c = run-one-outcome
 
 pub same-paper-one-outcome-for-c : OneAnswer 3 same-paper.ps same-paper.r same-paper-reads.Post

@@ -1,30 +1,20 @@
-// The press driver's entry points: a move over a lent walker, which the driver finds moved. Each calls the move by value and stores the walker that it gives.
+// The press driver's entry point: a move over a lent walker, which the driver finds moved. It calls the move by value and stores the walker that it gives.
 use walker::Walker;
 use walking::Moved;
-use walking::back::back;
-use walking::forward::forward;
+use walking::walk::walk;
 ghost use mathlib.Core.Path.{_≡_};
-ghost use mathlib.Core.Bool.{true, false};
 ghost use Rattle.walking.specs.Answers.{moveAnswer, moveStrip};
 
 #[no_mangle]
-pub extern "C" fn nelfrupi_drive_forward(
+pub extern "C" fn nelfrupi_drive(
     stock: &[u16],
     strip: &mut [u8],
     walker: &mut Walker,
+    back: bool,
 ) -> Moved
-    ensures { λ r. ⌜ (r ≡ moveAnswer false (now (stock .entry)) (now (strip .entry)) (now (walker .entry))) × (now (strip .exit) ≡ moveStrip false (now (stock .entry)) (now (strip .entry)) (now (walker .entry))) × (now (walker .exit) ≡ r .walker) ⌝ }
+    ensures { λ r. ⌜ (r ≡ moveAnswer back (now (stock .entry)) (now (strip .entry)) (now (walker .entry))) × (now (strip .exit) ≡ moveStrip back (now (stock .entry)) (now (strip .entry)) (now (walker .entry))) × (now (walker .exit) ≡ r .walker) ⌝ }
 {
-    let m = forward(stock, strip, *walker);
-    *walker = m.walker;
-    m
-}
-
-#[no_mangle]
-pub extern "C" fn nelfrupi_drive_back(stock: &[u16], strip: &mut [u8], walker: &mut Walker) -> Moved
-    ensures { λ r. ⌜ (r ≡ moveAnswer true (now (stock .entry)) (now (strip .entry)) (now (walker .entry))) × (now (strip .exit) ≡ moveStrip true (now (stock .entry)) (now (strip .entry)) (now (walker .entry))) × (now (walker .exit) ≡ r .walker) ⌝ }
-{
-    let m = back(stock, strip, *walker);
+    let m = walk(stock, strip, *walker, back);
     *walker = m.walker;
     m
 }

@@ -29,11 +29,9 @@ use walker::Walker;
 use walker::open::Opened;
 use walker::open::open;
 use walking::Moved;
-use walking::back::back;
-use walking::forward::forward;
+use walking::walk::walk;
 use writing::sheet::write_sheet;
 ghost use mathlib.Core.Path.{_≡_};
-ghost use mathlib.Core.Bool.{true, false};
 ghost use Rattle.counting.specs.Answers.{countAnswer, firstAnswer, firstAfter};
 ghost use Rattle.numbering.specs.Answers.{numberAnswer, stripAnswer, stripAfter};
 ghost use Rattle.drawers.specs.Answers.{dictionaryNumberAnswer, dictionaryStripAnswer, dictionaryStripAfter, dictionaryNextAnswer, dictionaryNextAfter};
@@ -136,17 +134,15 @@ pub extern "C" fn nelfrupi_open(stock: &[u16], strip: &[u8]) -> Opened
 }
 
 #[no_mangle]
-pub extern "C" fn nelfrupi_forward(stock: &[u16], strip: &mut [u8], walker: Walker) -> Moved
-    ensures { λ r. ⌜ (r ≡ moveAnswer false (now (stock .entry)) (now (strip .entry)) walker) × (now (strip .exit) ≡ moveStrip false (now (stock .entry)) (now (strip .entry)) walker) ⌝ }
+pub extern "C" fn nelfrupi_walk(
+    stock: &[u16],
+    strip: &mut [u8],
+    walker: Walker,
+    back: bool,
+) -> Moved
+    ensures { λ r. ⌜ (r ≡ moveAnswer back (now (stock .entry)) (now (strip .entry)) walker) × (now (strip .exit) ≡ moveStrip back (now (stock .entry)) (now (strip .entry)) walker) ⌝ }
 {
-    forward(stock, strip, walker)
-}
-
-#[no_mangle]
-pub extern "C" fn nelfrupi_back(stock: &[u16], strip: &mut [u8], walker: Walker) -> Moved
-    ensures { λ r. ⌜ (r ≡ moveAnswer true (now (stock .entry)) (now (strip .entry)) walker) × (now (strip .exit) ≡ moveStrip true (now (stock .entry)) (now (strip .entry)) walker) ⌝ }
-{
-    back(stock, strip, walker)
+    walk(stock, strip, walker, back)
 }
 
 #[no_mangle]
@@ -154,11 +150,12 @@ pub extern "C" fn nelfrupi_run(
     stock: &[u16],
     strip: &mut [u8],
     walker: Walker,
+    back: bool,
     list: &mut [u8],
 ) -> Ran
-    ensures { λ r. ⌜ (r ≡ runAnswer (now (stock .entry)) (now (strip .entry)) walker (now (list .entry))) × (now (strip .exit) ≡ runStrip (now (stock .entry)) (now (strip .entry)) walker (now (list .entry))) × (now (list .exit) ≡ runList (now (stock .entry)) (now (strip .entry)) walker (now (list .entry))) ⌝ }
+    ensures { λ r. ⌜ (r ≡ runAnswer back (now (stock .entry)) (now (strip .entry)) walker (now (list .entry))) × (now (strip .exit) ≡ runStrip back (now (stock .entry)) (now (strip .entry)) walker (now (list .entry))) × (now (list .exit) ≡ runList back (now (stock .entry)) (now (strip .entry)) walker (now (list .entry))) ⌝ }
 {
-    run(stock, strip, walker, list)
+    run(stock, strip, walker, back, list)
 }
 
 #[no_mangle]

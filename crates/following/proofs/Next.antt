@@ -14,14 +14,14 @@ use Rattle.rules.specs.Neighbours.{places, differFrom}
 use Rattle.rules.proofs.Places.{place-below, book-size}
 use Rattle.walker.specs.declared.Walker.{Walker}
 use Rattle.walking.specs.declared.Moved.{Moved}
-use Rattle.walking.specs.Answers.{onward, beside, left}
+use Rattle.walking.specs.Answers.{along, leftAlong, onward, left}
 use Rattle.walking.specs.Checked.{Checked, stepAnswer, stepStrip}
-use Rattle.walking.proofs.Onward.{none-left}
+use Rattle.walking.proofs.Along.{none-left}
 use Rattle.walking.proofs.Stepped.{Step, step-refused, step-made}
 
 -- after the last strip there is none
 pub past-last : (counts s : List ℕ) → IsStrip counts s → left counts s ≡ 0 → onward counts s 1 ≡ []
-unfolding onward left
+unfolding along leftAlong
 past-last counts s h e = List·getD-eq-default (book counts) [] (omega (arith, book-size counts, place-below counts s h))
 
 pub no-places : (p : ℕ) (s : List ℕ) → differFrom p s [] ≡ []
@@ -55,7 +55,6 @@ module _ (counts t : List ℕ) (w : Walker) (c : Checked counts t w) (m : Moved)
   made e = elim (ℕ-discrete (m .refusal .no) 0) [ yes z ↦ z | no z ↦ absurd (false≢true (sym (rw (ne-eqb (m .refusal .no) 0 z) at held) ∙ e)) ]
 
   shown : m .refusal .no ≡ 0 → same (places t (onward counts t 1)) (p ∷ q ∷ []) ≡ b
-  unfolding beside
   shown z =
       let s = step-made false counts t w c m u is z in
       rw (← s .strip, s .shown) (sym (rw (eq-eqb (m .refusal .no) 0 z) at held))
@@ -70,6 +69,6 @@ module _ (counts t : List ℕ) (w : Walker) (c : Checked counts t w) (m : Moved)
   next-no e = elim (ℕ-discrete (m .refusal .no) 0) [
     | yes z ↦ shown z ∙ e
     | no z ↦
-        let l = none-left counts t (step-refused false counts t w c m u is z .0) in
+        let l = none-left false counts t (step-refused false counts t w c m u is z .0) in
         rw (past-last counts t (c .strip) l, no-places 1 t)
   ]

@@ -11,7 +11,7 @@ use lib.Seq.{drop-cons}
 use Rattle.rules.specs.Book.{same}
 use Rattle.rules.specs.Neighbours.{places}
 use Rattle.rules.specs.Refusals.{fine}
-use Rattle.walking.specs.Answers.{onward}
+use Rattle.walking.specs.Answers.{along, onward}
 use Rattle.following.specs.Following.{refusedAt, ended, ifNext, choice, follow, asReadout}
 use Rattle.following.specs.Ends.{readoutOf}
 
@@ -32,7 +32,7 @@ module _ (counts s : List ℕ) (at kind : ℕ) where
 
   pub whole-move : kind ≡ 3 → (p q : ℕ) (rest : List ℕ)
       → follow counts s at (kind ∷ p ∷ q ∷ rest) ≡ ifNext (same (places s (onward counts s 1)) (p ∷ q ∷ [])) at (follow counts (onward counts s 1) (at + 3) rest)
-  unfolding follow onward
+  unfolding follow along
   whole-move h p q rest = rw (eq-eqb kind 3 h)
 
 -- ---- by the sheet and the byte

@@ -13,7 +13,6 @@ use Rattle.rules.proofs.Strips.{strip-sum}
 use Rattle.walker.specs.declared.Walker.{Walker}
 use Rattle.walker.specs.Walkers.{walkerOf}
 use Rattle.walking.specs.declared.Moved.{Moved}
-use Rattle.walking.specs.Answers.{beside}
 use Rattle.walking.specs.Checked.{Checked, stepAnswer, stepStrip}
 use Rattle.following.specs.declared.Readout.{Readout}
 use Rattle.following.specs.Following.{Followed, refusedAt, oneMore, ended, follow, asReadout}
@@ -87,7 +86,6 @@ module _ (counts sheet : List ℕ) (whole : Followed) (t : List ℕ) (w : Walker
         miss e = stop 11 at u (at-move counts t sheet at h move l ∙ rw (next-no counts t w (checked k) m u is _ _ b held e))
 
         pub hit : b ≡ true → Underway counts sheet whole u (m .walker) (at + 3) (i + 1)
-        unfolding beside
         hit e =
             let n = next-yes counts t w (checked k) m u is _ _ b held e in
             let s = n .1 in

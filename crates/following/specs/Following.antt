@@ -7,7 +7,7 @@ use Rattle.rules.specs.Book.{same}
 use Rattle.rules.specs.Neighbours.{places}
 use Rattle.rules.specs.Refusals.{No, fine}
 use Rattle.stock.specs.Refused.{refusal}
-use Rattle.walking.specs.Answers.{onward}
+use Rattle.walking.specs.Answers.{along, onward}
 use Rattle.following.specs.declared.Readout.{Readout}
 
 -- what the records after the strip come to: the first refusal, the moves, the strip after them
@@ -41,7 +41,7 @@ byKind kind at move end = choice (eqb kind 3) move (choice (eqb kind 4) end (ref
 
 -- the records from a byte on, the strip s standing: a move is the next one or 12; a record that is missing or cut short is 11
 unfoldable pub follow : List ℕ → List ℕ → ℕ → List ℕ → Followed
-unfolding onward
+unfolding along
 follow counts s at [] = refusedAt 11 at
 follow counts s at (kind ∷ []) = byKind kind at (refusedAt 11 at) (ended s at [])
 follow counts s at (kind ∷ p ∷ []) = byKind kind at (refusedAt 11 at) (ended s at (p ∷ []))

@@ -80,7 +80,7 @@ fn follow_on(sheet: &[u8], from: usize, stock: &[u16], strip: &mut [u8], walker:
         if sheet.len() - at < 3 {
             return refused(11, at);
         }
-        let made = step(stock, strip, walker, false, true);
+        let made = step(stock, strip, walker, false);
         if !is_move(made, sheet[at + 1], sheet[at + 2]) {
             return refused(12, at);
         }

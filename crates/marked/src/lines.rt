@@ -6,8 +6,7 @@ use numbering::number::number;
 use numbering::strip::strip;
 use running::run::run;
 use walker::open::open;
-use walking::back::back;
-use walking::forward::forward;
+use walking::walk::walk;
 
 pub fn of_count(stock: &[u16]) {
     say::call(b"Count", stock);
@@ -38,23 +37,25 @@ pub fn of_distance(stock: &[u16], first: &[u8], to: &[u8]) {
     say::refusal(refusal);
 }
 
-pub fn of_forward(stock: &[u16], blocks: &mut [u8]) {
-    say::call_on(b"Forward", stock, blocks);
-    let opened = open(stock, blocks);
-    let walker = opened.walker;
-    say::places(forward(stock, blocks, walker));
+// Walk or Run, and the direction.
+fn directed(on: &[u8], backward: &[u8], stock: &[u16], blocks: &[u8], back: bool) {
+    if back {
+        say::call_on(backward, stock, blocks);
+        return;
+    }
+    say::call_on(on, stock, blocks);
 }
 
-pub fn of_back(stock: &[u16], blocks: &mut [u8]) {
-    say::call_on(b"Back", stock, blocks);
+pub fn of_walk(stock: &[u16], blocks: &mut [u8], back: bool) {
+    directed(b"Walk on", b"Walk back", stock, blocks, back);
     let opened = open(stock, blocks);
     let walker = opened.walker;
-    say::places(back(stock, blocks, walker));
+    say::places(walk(stock, blocks, walker, back));
 }
 
-pub fn of_run(stock: &[u16], blocks: &mut [u8], list: &mut [u8]) {
-    say::call_on(b"Run", stock, blocks);
+pub fn of_run(stock: &[u16], blocks: &mut [u8], back: bool, list: &mut [u8]) {
+    directed(b"Run on", b"Run back", stock, blocks, back);
     let opened = open(stock, blocks);
     let walker = opened.walker;
-    say::moves(run(stock, blocks, walker, list));
+    say::moves(run(stock, blocks, walker, back, list));
 }

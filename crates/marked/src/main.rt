@@ -13,6 +13,13 @@ fn of_1_2_2(blocks: [u8; 5]) {
     lines::of_number(&[1, 2, 2], &blocks);
 }
 
+// Run from strip 9, with room for 4 moves, 9 and 20.
+fn runs_of_1_2_2(back: bool) {
+    lines::of_run(&[1, 2, 2], &mut [3, 3, 1, 2, 2], back, &mut [0; 8]);
+    lines::of_run(&[1, 2, 2], &mut [3, 3, 1, 2, 2], back, &mut [0; 19]);
+    lines::of_run(&[1, 2, 2], &mut [3, 3, 1, 2, 2], back, &mut [0; 40]);
+}
+
 // The seven marked numbers, and the two ends of the book.
 fn book_of_1_2_2() {
     lines::of_count(&[1, 2, 2]);
@@ -23,14 +30,17 @@ fn book_of_1_2_2() {
     of_1_2_2([3, 3, 2, 1, 2]);
     of_1_2_2([2, 2, 1, 3, 3]);
     of_1_2_2([3, 3, 2, 2, 1]);
-    lines::of_forward(&[1, 2, 2], &mut [3, 3, 2, 2, 1]);
-    lines::of_back(&[1, 2, 2], &mut [1, 2, 2, 3, 3]);
+    lines::of_walk(&[1, 2, 2], &mut [3, 3, 2, 2, 1], false);
+    lines::of_walk(&[1, 2, 2], &mut [1, 2, 2, 3, 3], true);
+    runs_of_1_2_2(false);
+    runs_of_1_2_2(true);
 }
 
 // One kind, and counts that are refused.
 fn single_kinds() {
     lines::of_count(&[64]);
-    lines::of_run(&[64], &mut [1; 64], &mut [0; 8]);
+    lines::of_run(&[64], &mut [1; 64], false, &mut [0; 8]);
+    lines::of_run(&[64], &mut [1; 64], true, &mut [0; 8]);
     lines::of_count(&[65]);
     lines::of_count(&[0, 70]);
 }
@@ -49,7 +59,7 @@ fn longer_book(stock: &[u16], blocks: &mut [u8]) {
     lines::of_count(stock);
     first(stock, blocks);
     lines::of_number(stock, blocks);
-    lines::of_forward(stock, blocks);
+    lines::of_walk(stock, blocks, false);
 }
 
 // Four blocks, for any counts.

@@ -94,7 +94,7 @@ pub fn places(moved: Moved) {
     write_all(1, b"\n");
 }
 
-// The moves made, and yes where the strip is the last.
+// The moves made, and yes where the strip is at the end of the book.
 pub fn moves(ran: Ran) {
     let refused = ran.refusal;
     if refused.no != 0 {
@@ -102,7 +102,7 @@ pub fn moves(ran: Ran) {
         return;
     }
     said(b": moves ", ran.moves);
-    if ran.last {
+    if ran.ended {
         write_all(1, b", yes\n");
         return;
     }

@@ -19,9 +19,9 @@ use Rattle.walker.specs.Walkers.{walkerOf, allForward}
 use Rattle.walker.specs.declared.open.Opened.{Opened}
 use Rattle.walker.specs.Answers.{openAnswer}
 use Rattle.walking.specs.declared.Moved.{Moved}
-use Rattle.walking.specs.Answers.{onward, beside, left}
+use Rattle.walking.specs.Answers.{along, leftAlong}
 use Rattle.walking.specs.Checked.{Checked, stepAnswer, stepStrip}
-use Rattle.walking.proofs.Onward.{none-left, some-left}
+use Rattle.walking.proofs.Along.{none-left, some-left}
 use Rattle.walking.proofs.Stepped.{Step, step-refused, step-made}
 use Rattle.printing.specs.declared.shown.Shown.{Shown}
 use Rattle.printing.specs.States.{shownAt, nowhere, nextShown, Stands}
@@ -49,17 +49,17 @@ module _ (counts : List ℕ) (sh : Shown) (st : Stands counts sh) where
   module _ (r : Moved) (u : List ℕ) (is : (r ≡ stepAnswer false counts t (sh .walker)) × (u ≡ stepStrip false counts t)) where
     -- no step: it is the last strip
     pub no-next : (r .refusal .no ≡ 0 → ⊥) → nextShown counts sh ≡ nowhere
-    unfolding left
+    unfolding leftAlong
     no-next z =
-        let e = none-left counts t (step-refused false counts t (sh .walker) ready r u is z .0) in
+        let e = none-left false counts t (step-refused false counts t (sh .walker) ready r u is z .0) in
         next-last counts sh some (omega (arith, e, place, lines-many counts))
 
     pub next : r .refusal .no ≡ 0 → sh .number < 4095
         → _≡_ {A = Shown} record { strip = u ++ drop (sh .blocks) (sh .strip); blocks = sh .blocks; number = sh .number + 1; walker = r .walker } (nextShown counts sh)
-    unfolding left beside onward
+    unfolding leftAlong along
     next z few =
         let m : Step false counts t r u = step-made false counts t (sh .walker) ready r u is z in
-        let more = some-left counts t (m .allowed) in
+        let more = some-left false counts t (m .allowed) in
         let to : u ≡ getD (book counts) (sh .number + 1) [] = m .strip ∙ ap (λ (i : ℕ). getD (book counts) (i + 1) []) place in
         let n : sh .blocks ≡ length u = blocks-are counts (st .stock) (sh .number) within sh (st .is) ∙ size counts (st .stock) (sh .number) within ∙ sym (strip-sum counts u (m .own)) in
         shown-is counts u (drop (sh .blocks) (sh .strip)) (sh .blocks) (sh .number + 1) (r .walker) to n (zeros-are counts (st .stock) (sh .number) within sh (st .is)) (m .walker)

@@ -59,7 +59,7 @@ pub fn show_next(stock: &[u16], shown: Shown) -> Shown
         return show_none();
     }
     let mut strip = shown.strip;
-    let m = step(stock, &mut strip[..n], shown.walker, false, true);
+    let m = step(stock, &mut strip[..n], shown.walker, false);
     let refusal = m.refusal;
     let no = refusal.no;
     if no != 0 {

@@ -1,47 +1,32 @@
 -- Proofs. The move records of a sheet and what following them comes to: the records of c moves lead c strips on, and records that are followed to the end are those.
-use Prim.Native.Nat.{ℕ, zero, suc, _+_, _-_, _≤_}
+use Prim.Native.Nat.{ℕ, zero, suc, _+_, _≤_}
 use mathlib.Core.Path.{_≡_, refl, sym, ap, _∙_}
 use mathlib.Core.Bool.{Bool, true, false}
 use mathlib.Core.List.{List, [], _∷_, _++_, append-nil, append-assoc}
 use native.Mathlib.Decide.{ℕ-discrete}
 use native.Mathlib.Omega.{arith}
 use borrow.Author.Tests.{eq-eqb, ne-eqb}
-use lib.ListN.{length}
 use Rattle.rules.specs.Stock.{IsStrip}
-use Rattle.rules.specs.Book.{book, placeIn, same}
+use Rattle.rules.specs.Book.{same}
 use Rattle.rules.specs.Neighbours.{places}
 use Rattle.rules.specs.Refusals.{fine}
 use Rattle.rules.proofs.Places.{same-self, same-true}
-use Rattle.rules.proofs.Strips.{moveOf}
-use Rattle.walking.specs.Answers.{onward, beside, left}
-use Rattle.walking.specs.Checked.{found}
-use Rattle.walking.proofs.OneMove.{found-none, found-some}
-use Rattle.walking.proofs.Onward.{none-left, onward-none, onward-strip, onward-place, onward-left}
+use Rattle.walking.specs.Answers.{onward, left}
+use Rattle.walking.proofs.Along.{two-places, along-none, along-strip, along-left, along-further}
 use Rattle.sheets.specs.Sheets.{moveRecords}
 use Rattle.following.specs.Following.{Followed, refusedAt, oneMore, ended, ifNext, follow}
 use Rattle.following.proofs.Steps.{not-move, short-move, whole-move}
 use Rattle.following.proofs.Next.{past-last, no-places}
 
 module _ (counts s : List ℕ) (h : IsStrip counts s) (some : 1 ≤ left counts s) where
-  -- a move exchanges two places
-  two-places : (p : ℕ) × (q : ℕ) × (places s (onward counts s 1) ≡ p ∷ q ∷ [])
-  unfolding beside
-  two-places =
-      let m = found (length counts) (moveOf false counts s) in
-      let k = found-some false counts s h m refl (λ z. omega (arith, none-left counts s (found-none false counts s h m refl z))) in
-      (m .low + 1, m .high + 1, k .shown)
-
   -- from the next strip it is one number less
   pub onward-onward : (i : ℕ) → onward counts (onward counts s 1) i ≡ onward counts s (suc i)
-  unfolding onward
-  onward-onward i =
-      let e : placeIn (book counts) s + 1 + i ≡ placeIn (book counts) s + suc i = omega arith in
-      rw (onward-place counts s h 1 some, e)
+  onward-onward i = let e : 1 + i ≡ suc i = omega arith in along-further false counts s h 1 some i ∙ rw e
 
   -- the first record, then those from the next strip
   pub front : (c : ℕ) → moveRecords counts s (suc c) ≡ (3 ∷ places s (onward counts s 1)) ++ moveRecords counts (onward counts s 1) c
   unfolding moveRecords
-  front zero = rw (onward-none counts s h) (sym (append-nil (3 ∷ places s (onward counts s 1))))
+  front zero = rw (along-none false counts s h) (sym (append-nil (3 ∷ places s (onward counts s 1))))
   front (suc c) = rw (front c, onward-onward c, onward-onward (suc c)) (append-assoc (3 ∷ places s (onward counts s 1)) (moveRecords counts (onward counts s 1) c) _)
 
 -- ---- the records of c moves, and then the end
@@ -53,13 +38,14 @@ records-none counts s = refl
 module _ (counts : List ℕ) where
   pub follow-written : (c : ℕ) (s : List ℕ) → IsStrip counts s → c ≤ left counts s → (at : ℕ)
       → follow counts s at (moveRecords counts s c ++ (4 ∷ [])) ≡ record { no = fine; moves = c; strip = onward counts s c }
-  follow-written zero s h l at = rw (records-none counts s, onward-none counts s h) (not-move counts s at 4 (λ z. omega arith) [])
+  follow-written zero s h l at = rw (records-none counts s, along-none false counts s h) (not-move counts s at 4 (λ z. omega arith) [])
   follow-written (suc c) s h l at =
       let some : 1 ≤ left counts s = omega arith in
       let t = onward counts s 1 in
-      let e = two-places counts s h some .2 in
-      let later = follow-written c t (onward-strip counts s h 1 some) (omega (arith, onward-left counts s h 1 some)) (at + 3) in
-      rw (front counts s h some c, e) (whole-move counts s at 3 refl _ _ (moveRecords counts t c ++ (4 ∷ [])) ∙ rw (e, same-self (two-places counts s h some .0 ∷ two-places counts s h some .1 ∷ []), later, onward-onward counts s h some c))
+      let two = two-places false counts s h some in
+      let e = two .2 in
+      let later = follow-written c t (along-strip false counts s h 1 some) (omega (arith, along-left false counts s h 1 some)) (at + 3) in
+      rw (front counts s h some c, e) (whole-move counts s at 3 refl _ _ (moveRecords counts t c ++ (4 ∷ [])) ∙ rw (e, same-self (two .0 ∷ two .1 ∷ []), later, onward-onward counts s h some c))
 
   -- and back: what is followed to the end without a refusal is those records
   pub record Rebuilt (s l : List ℕ) (f : Followed) : Type 0 where
@@ -73,7 +59,7 @@ module _ (counts : List ℕ) where
   not-refused f n at e z = omega (arith, ap (λ (f : Followed). f .no .0) e, z)
 
   at-end : (s : List ℕ) → IsStrip counts s → (at : ℕ) (rest : List ℕ) → ended s at rest .no .0 ≡ 0 → Rebuilt s (4 ∷ rest) (ended s at rest)
-  at-end s h at [] z = record { sheet = rw (records-none counts s); within = omega arith; strip = sym (onward-none counts s h); none = refl }
+  at-end s h at [] z = record { sheet = rw (records-none counts s); within = omega arith; strip = sym (along-none false counts s h); none = refl }
   at-end s h at (x ∷ rest) z = absurd (omega arith)
 
   no-move : (kind : ℕ) → (kind ≡ 3 → ⊥) → (rest s : List ℕ) → IsStrip counts s → (at : ℕ) → follow counts s at (kind ∷ rest) .no .0 ≡ 0 → Rebuilt s (kind ∷ rest) (follow counts s at (kind ∷ rest))
@@ -92,10 +78,10 @@ module _ (counts : List ℕ) where
           | yes z ↦ let n : _≡_ {A = ℕ} 0 1 = cc (rw (past-last counts s h z, no-places 1 s) at e) in absurd (omega arith)
           | no z ↦ omega arith
         ] in
-        let r = later (onward-strip counts s h 1 some) in
+        let r = later (along-strip false counts s h 1 some) in
         record {
           sheet = rw (front counts s h some (f .moves), e) (ap (λ (l : List ℕ). 3 ∷ p ∷ q ∷ l) (r .sheet));
-          within = omega (arith, r .within, onward-left counts s h 1 some);
+          within = omega (arith, r .within, along-left false counts s h 1 some);
           strip = r .strip ∙ onward-onward counts s h some (f .moves);
           none = r .none;
         }

@@ -1,9 +1,10 @@
 -- Proofs. Neighbours in the book differ by one exchange of two blocks, at two places; and the first strip of the book, and the last.
 use Prim.Native.Nat.{ℕ, zero, suc, _+_, _-_, _≤_, _<_}
-use mathlib.Core.Path.{_≡_, refl, sym, _∙_}
+use mathlib.Core.Path.{_≡_, refl, sym, ap, _∙_}
 use mathlib.Core.Bool.{false}
 use mathlib.Core.Logic.{inl, inr, _≢_}
 use mathlib.Core.List.{List, [], _∷_, _++_, reverse, reverse-reverse}
+use native.Mathlib.Decide.{ℕ-discrete}
 use native.Mathlib.Nat.{zero-add}
 use native.Mathlib.Omega.{arith}
 use borrow.Author.Tests.{eq-eqb, ne-eqb}
@@ -34,21 +35,33 @@ differ-after k (x ∷ u) s t =
     let e : suc (length u) + k ≡ length u + suc k = omega arith in
     rw (eq-eqb x x refl, e) (differ-after (suc k) u s t)
 
+-- they are the same from either
+differ-sym : (k : ℕ) (s t : List ℕ) → differFrom k s t ≡ differFrom k t s
+unfolding differFrom
+differ-sym k [] [] = refl
+differ-sym k [] (y ∷ t) = refl
+differ-sym k (x ∷ s) [] = refl
+differ-sym k (x ∷ s) (y ∷ t) = elim (ℕ-discrete x y) [
+  | yes e ↦ rw (eq-eqb x y e, eq-eqb y x (sym e)) (differ-sym (suc k) s t)
+  | no e ↦ rw (ne-eqb x y e, ne-eqb y x (λ f. e (sym f))) (ap (λ (l : List ℕ). k ∷ l) (differ-sym (suc k) s t))
+]
+
+pub places-sym : (s t : List ℕ) → places s t ≡ places t s
+places-sym s t = differ-sym 1 s t
+
 module _ (k p q x y : ℕ) (s t : List ℕ) where
-  differ-hop : x ≢ y → Hop x y p q s t → (differFrom k s t ≡ (p + k) ∷ (q + k) ∷ []) × (differFrom k t s ≡ (p + k) ∷ (q + k) ∷ [])
+  differ-hop : x ≢ y → Hop x y p q s t → differFrom k s t ≡ (p + k) ∷ (q + k) ∷ []
   unfolding differFrom
   differ-hop n h =
       let m = replicate (h .gap) y in
       let e : length m + suc (p + k) ≡ q + k = omega (arith, length-replicate (h .gap) y, h .over) in
-      rw (h .is-from, h .is-to) (
-        differ-after k (h .front) _ _ ∙ rw (h .at, ne-eqb x y n, differ-after (suc (p + k)) m (y ∷ h .back) (x ∷ h .back), e, ne-eqb y x (λ f. n (sym f)), differ-same (suc (q + k)) (h .back)),
-        differ-after k (h .front) _ _ ∙ rw (h .at, ne-eqb y x (λ f. n (sym f)), differ-after (suc (p + k)) m (x ∷ h .back) (y ∷ h .back), e, ne-eqb x y n, differ-same (suc (q + k)) (h .back)),
-      )
+      rw (h .is-from, h .is-to)
+      (differ-after k (h .front) _ _ ∙ rw (h .at, ne-eqb x y n, differ-after (suc (p + k)) m (y ∷ h .back) (x ∷ h .back), e, ne-eqb y x (λ f. n (sym f)), differ-same (suc (q + k)) (h .back)))
 
 -- an exchange of the blocks at p and q, from 0, shows at the places p + 1 and q + 1 and at no other
 pub swapped-places : (j p q : ℕ) (s t : List ℕ) → Swapped j p q s t → places s t ≡ (p + 1) ∷ (q + 1) ∷ []
-swapped-places j p q s t (x, l, inl h) = differ-hop 1 p q x j s t (omega arith) h .0
-swapped-places j p q s t (x, l, inr h) = differ-hop 1 p q x j t s (omega arith) h .1
+swapped-places j p q s t (x, l, inl h) = differ-hop 1 p q x j s t (omega arith) h
+swapped-places j p q s t (x, l, inr h) = places-sym s t ∙ differ-hop 1 p q x j t s (omega arith) h
 
 -- ---- neighbours
 

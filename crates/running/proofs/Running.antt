@@ -1,4 +1,4 @@
--- Proofs. A run on its way: after i moves the strip is the one i numbers further on, the walker its walker, and the list has the places of those moves.
+-- Proofs. A run on its way: after i moves the strip is the one i numbers further, the walker its walker, and the list has the places of those moves.
 use Prim.Native.Nat.{ℕ, suc, _+_, _*_, _/_, _-_, _≤_, _<_}
 use mathlib.Core.Path.{_≡_, refl, sym, ap, _∙_}
 use mathlib.Core.Bool.{Bool, true, false}
@@ -17,24 +17,24 @@ use Rattle.walker.specs.declared.Walker.{Walker}
 use Rattle.walker.specs.Walkers.{walkerOf}
 use Rattle.walking.specs.declared.Moved.{Moved}
 use Rattle.walking.specs.declared.finding.Found.{Found}
-use Rattle.walking.specs.Answers.{left}
+use Rattle.walking.specs.Answers.{leftAlong}
 use Rattle.walking.specs.Checked.{Checked, found, asMade, stepAnswer, stepStrip}
 use Rattle.walking.proofs.OneMove.{Makes, found-none, found-some, moves}
-use Rattle.walking.proofs.Onward.{none-left, some-left}
+use Rattle.walking.proofs.Along.{none-left, some-left}
 use Rattle.walking.proofs.Walked as walks
 use Rattle.running.specs.declared.run.Ran.{Ran}
 use Rattle.running.specs.Answers.{runMoves, asRan, movesFrom}
 use Rattle.running.specs.Made.{Made}
+use Rattle.running.proofs.Listed.{moves-long}
 
-pub record Running (counts s list₀ t : List ℕ) (w : Walker) (list : List ℕ) (i : ℕ) : Type 0 where
-  pub walked : walks.Walked counts s t w i
+pub record Running (d : Bool) (counts s list₀ t : List ℕ) (w : Walker) (list : List ℕ) (i : ℕ) : Type 0 where
+  pub walked : walks.Walked d counts s t w i
   pub room : i ≤ length list₀ / 2
-  pub long : length (movesFrom counts s i) ≡ 2 * i
-  pub listed : list ≡ movesFrom counts s i ++ drop (2 * i) list₀
+  pub listed : list ≡ movesFrom d counts s i ++ drop (2 * i) list₀
 
-pub start : (counts s list₀ : List ℕ) (w : Walker) → Checked counts s w → Running counts s list₀ s w list₀ 0
+pub start : (d : Bool) (counts s list₀ : List ℕ) (w : Walker) → Checked counts s w → Running d counts s list₀ s w list₀ 0
 unfolding movesFrom
-start counts s list₀ w c = record { walked = walks.start counts s w c; room = omega arith; long = refl; listed = refl }
+start d counts s list₀ w c = record { walked = walks.start d counts s w c; room = omega arith; listed = refl }
 
 -- two places written at the start of what is left of a list
 write-two : (m l : List ℕ) (k a b : ℕ) → length m ≡ k → suc k < length l → set (set (m ++ drop k l) k a) (k + 1) b ≡ m ++ (a ∷ b ∷ drop (k + 2) l)
@@ -44,62 +44,63 @@ write-two m l k a b e h =
     rw (f, add-one k, drop-cons l k 0 (omega arith), drop-cons l (suc k) 0 h, set-at m _ _ a k e, ← append-assoc m (a ∷ []) _)
     (set-at (m ++ (a ∷ [])) _ _ b (suc k) n ∙ append-assoc m (a ∷ []) _)
 
-module _ (counts s list₀ t : List ℕ) (w : Walker) (list : List ℕ) (i : ℕ) (k : IsStock counts) (h : IsStrip counts s) (v : Running counts s list₀ t w list i) where
+module _ (d : Bool) (counts s list₀ t : List ℕ) (w : Walker) (list : List ℕ) (i : ℕ) (k : IsStock counts) (h : IsStrip counts s) (v : Running d counts s list₀ t w list i) where
   pub checked : Checked counts t w
-  checked = walks.checked counts s t w i k h (v .walked)
+  checked = walks.checked d counts s t w i k h (v .walked)
 
   pub same-strip : length t ≡ length s
-  same-strip = walks.same-length counts s t w i k h (v .walked)
+  same-strip = walks.same-length d counts s t w i k h (v .walked)
+
+  long : length (movesFrom d counts s i) ≡ 2 * i
+  long = moves-long d counts s h i (v .walked .made)
 
   pub same-list : length list ≡ length list₀
-  same-list = rw (v .listed, length-append (movesFrom counts s i) (drop (2 * i) list₀), length-drop (2 * i) list₀) (omega (arith, v .long, v .room))
+  same-list = rw (v .listed, length-append (movesFrom d counts s i) (drop (2 * i) list₀), length-drop (2 * i) list₀) (omega (arith, long, v .room))
 
   -- how many strips are left where the run stands
-  here : left counts t ≡ left counts s - i
-  here = walks.here counts s t w i k h (v .walked)
+  here : leftAlong d counts t ≡ leftAlong d counts s - i
+  here = walks.here d counts s t w i k h (v .walked)
 
   -- where i moves are all, they are made
-  all : (x : Ran) (b : Bool) → x ≡ asRan fine i b w → runMoves counts s list₀ ≡ i → b ≡ eqb i (left counts s) → Made counts s list₀ x t list
+  all : (x : Ran) (b : Bool) → x ≡ asRan fine i b w → runMoves d counts s list₀ ≡ i → b ≡ eqb i (leftAlong d counts s) → Made d counts s list₀ x t list
   all x b a e f = record {
-    answer = a ∙ rw (e, f) (ap (asRan fine i (eqb i (left counts s))) (v .walked .walker ∙ ap (walkerOf counts) (v .walked .strip)));
+    answer = a ∙ rw (e, f) (ap (asRan fine i (eqb i (leftAlong d counts s))) (v .walked .walker ∙ ap (walkerOf counts) (v .walked .strip)));
     strip = rw e (v .walked .strip);
     listed = rw e (v .listed);
   }
 
-  module _ (m : Found) (is : m ≡ found (length counts) (moveOf false counts t)) where
-    -- no move is found: the last strip is reached
-    pub stop : m .kind ≡ 0 → (x : Ran) → x ≡ asRan fine i true w → Made counts s list₀ x t list
+  module _ (m : Found) (is : m ≡ found (length counts) (moveOf d counts t)) where
+    -- no move is found: the end of the book is reached
+    pub stop : m .kind ≡ 0 → (x : Ran) → x ≡ asRan fine i true w → Made d counts s list₀ x t list
     unfolding runMoves
     stop z x a =
-        let e : left counts s ≡ i = omega (arith, none-left counts t (found-none false counts t (checked .strip) m is z), here, v .walked .made) in
-        all x true a (omega (arith, e, v .room)) (sym (eq-eqb i (left counts s) (sym e)))
+        let e : leftAlong d counts s ≡ i = omega (arith, none-left d counts t (found-none d counts t (checked .strip) m is z), here, v .walked .made) in
+        all x true a (omega (arith, e, v .room)) (sym (eq-eqb i (leftAlong d counts s) (sym e)))
 
     module _ (z : m .kind ≡ 0 → ⊥) where
-      pub move : Makes false counts t (m .kind) (m .low) (m .high)
-      move = found-some false counts t (checked .strip) m is z
+      pub move : Makes d counts t (m .kind) (m .low) (m .high)
+      move = found-some d counts t (checked .strip) m is z
 
-      more : i < left counts s
-      more = omega (arith, some-left counts t (move .allowed), here)
+      more : i < leftAlong d counts s
+      more = omega (arith, some-left d counts t (move .allowed), here)
 
       -- the room is used
-      pub full : i ≡ length list₀ / 2 → (x : Ran) → x ≡ asRan fine i false w → Made counts s list₀ x t list
+      pub full : i ≡ length list₀ / 2 → (x : Ran) → x ≡ asRan fine i false w → Made d counts s list₀ x t list
       unfolding runMoves
-      full l x a = all x false a (omega (arith, more)) (sym (ne-eqb i (left counts s) (omega (arith, more))))
+      full l x a = all x false a (omega (arith, more)) (sym (ne-eqb i (leftAlong d counts s) (omega (arith, more))))
 
       -- one move more
       pub on : (i ≡ length list₀ / 2 → ⊥) → (r : Moved) (u : List ℕ) → (r ≡ asMade m (length counts) w) × (u ≡ swap 0 t (m .low) (m .high))
-          → Running counts s list₀ u (r .walker) (set (set list (2 * i) (r .low)) (2 * i + 1) (r .high)) (i + 1)
+          → Running d counts s list₀ u (r .walker) (set (set list (2 * i) (r .low)) (2 * i + 1) (r .high)) (i + 1)
       unfolding movesFrom
       on l r u made =
-          let makes = moves false counts t w checked m move in
-          let step : (r ≡ stepAnswer false counts t w) × (u ≡ stepStrip false counts t) = (made .0 ∙ makes .0, made .1 ∙ makes .1) in
+          let makes = moves d counts t w checked m move in
+          let step : (r ≡ stepAnswer d counts t w) × (u ≡ stepStrip d counts t) = (made .0 ∙ makes .0, made .1 ∙ makes .1) in
           let none : r .refusal .no ≡ 0 = ap (λ (r : Moved). r .refusal .no) (made .0) in
-          let p = walks.shown counts s t w i k h (v .walked) r u step none in
-          let n : length (movesFrom counts s i ++ (r .low ∷ r .high ∷ [])) ≡ 2 * suc i = length-append (movesFrom counts s i) (r .low ∷ r .high ∷ []) ∙ omega (arith, v .long) in
-          let d : 2 * i + 2 ≡ 2 * suc i = omega arith in
+          let p = walks.shown d counts s t w i k h (v .walked) r u step none in
+          let e : 2 * i + 2 ≡ 2 * suc i = omega arith in
           record {
-            walked = walks.on counts s t w i k h (v .walked) r u step none;
+            walked = walks.on d counts s t w i k h (v .walked) r u step none;
             room = omega (arith, v .room);
-            long = rw (add-one i, p) n;
-            listed = rw (add-one i, v .listed, p, append-assoc (movesFrom counts s i) (r .low ∷ r .high ∷ []) _) (write-two (movesFrom counts s i) list₀ (2 * i) (r .low) (r .high) (v .long) (omega (arith, v .room)) ∙ rw d);
+            listed = rw (add-one i, v .listed, p, append-assoc (movesFrom d counts s i) (r .low ∷ r .high ∷ []) _) (write-two (movesFrom d counts s i) list₀ (2 * i) (r .low) (r .high) long (omega (arith, v .room)) ∙ rw e);
           }

@@ -1,2 +1,2 @@
-// Running: moving a strip on until a lent list of moves is full or the last strip is reached.
+// Running: moving a strip on or back until a lent list of moves is full or the end of the book is reached.
 pub mod run;

@@ -1,4 +1,4 @@
-// Run: the strip moves on until the lent list has no room left or the last strip is reached.
+// Run: the strip moves on, or back, until the lent list has no room left or the end of the book is reached.
 use stock::Refusal;
 use walker::Walker;
 use walker::check::check_walker;
@@ -15,32 +15,32 @@ ghost use Rattle.running.specs.Made.{Made};
 pub struct Ran {
     pub refusal: Refusal,
     pub moves: u64,
-    pub last: bool,
+    pub ended: bool,
     pub walker: Walker,
 }
 
 // The answer of a run that was not refused.
-fn answered(moves: usize, last: bool, walker: Walker) -> Ran
-    ensures { λ r. ⌜ r ≡ asRan fine moves last walker ⌝ }
+fn answered(moves: usize, ended: bool, walker: Walker) -> Ran
+    ensures { λ r. ⌜ r ≡ asRan fine moves ended walker ⌝ }
 {
     Ran {
         refusal: Refusal { no: 0, place: 0 },
         moves: moves as u64,
-        last,
+        ended,
         walker,
     }
 }
 
-// Moves a checked strip on and lists the places, two a move. The next move is looked for before the room is, so that it is known whether there is one.
-fn run_on(stock: &[u16], strip: &mut [u8], walker: Walker, list: &mut [u8]) -> Ran
+// Moves a checked strip on, or back, and lists the places, two a move. The next move is looked for before the room is, so that it is known whether there is one.
+fn run_checked(stock: &[u16], strip: &mut [u8], walker: Walker, back: bool, list: &mut [u8]) -> Ran
     requires { ⌜ Checked (now stock) (now strip) walker ⌝ }
-    ensures { λ r. ⌜ Made (now (stock .entry)) (now (strip .entry)) (now (list .entry)) r (now (strip .exit)) (now (list .exit)) ⌝ }
+    ensures { λ r. ⌜ Made back (now (stock .entry)) (now (strip .entry)) (now (list .entry)) r (now (strip .exit)) (now (list .exit)) ⌝ }
 {
     let room = list.len() / 2;
     let mut walker = walker;
     let mut moves: usize = 0;
     loop {
-        let m = find(stock, strip, walker, false, true);
+        let m = find(stock, strip, walker, back);
         let kind = m.kind;
         if kind == 0 {
             return answered(moves, true, walker);
@@ -58,8 +58,8 @@ fn run_on(stock: &[u16], strip: &mut [u8], walker: Walker, list: &mut [u8]) -> R
 }
 
 // The input is checked once; after that the strip only moves.
-pub fn run(stock: &[u16], strip: &mut [u8], walker: Walker, list: &mut [u8]) -> Ran
-    ensures { λ r. ⌜ (r ≡ runAnswer (now (stock .entry)) (now (strip .entry)) walker (now (list .entry))) × (now (strip .exit) ≡ runStrip (now (stock .entry)) (now (strip .entry)) walker (now (list .entry))) × (now (list .exit) ≡ runList (now (stock .entry)) (now (strip .entry)) walker (now (list .entry))) ⌝ }
+pub fn run(stock: &[u16], strip: &mut [u8], walker: Walker, back: bool, list: &mut [u8]) -> Ran
+    ensures { λ r. ⌜ (r ≡ runAnswer back (now (stock .entry)) (now (strip .entry)) walker (now (list .entry))) × (now (strip .exit) ≡ runStrip back (now (stock .entry)) (now (strip .entry)) walker (now (list .entry))) × (now (list .exit) ≡ runList back (now (stock .entry)) (now (strip .entry)) walker (now (list .entry))) ⌝ }
 {
     let refusal = check_walker(stock, strip, walker);
     let no = refusal.no;
@@ -67,9 +67,9 @@ pub fn run(stock: &[u16], strip: &mut [u8], walker: Walker, list: &mut [u8]) -> 
         return Ran {
             refusal,
             moves: 0,
-            last: false,
+            ended: false,
             walker,
         };
     }
-    run_on(stock, strip, walker, list)
+    run_checked(stock, strip, walker, back, list)
 }

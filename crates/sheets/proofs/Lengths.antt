@@ -22,10 +22,10 @@ module _ (counts s : List ℕ) (k : IsStock counts) (h : IsStrip counts s) where
   moves-long (suc c) l =
       let t = onward counts s c in
       let w = walkerOf counts t in
-      let v : Walked counts s t w c = record { made = omega arith; strip = refl; walker = refl } in
+      let v : Walked false counts s t w c = record { made = omega arith; strip = refl; walker = refl } in
       let r = stepAnswer false counts t w in
       let u = stepStrip false counts t in
-      let p = shown counts s t w c k h v r u (refl, refl) (allowed counts s t w c k h v r u (refl, refl) l) in
+      let p = shown false counts s t w c k h v r u (refl, refl) (allowed false counts s t w c k h v r u (refl, refl) l) in
       length-append (moveRecords counts s c) (3 ∷ places t (onward counts s (suc c))) ∙ rw p (omega (arith, moves-long c (omega arith)))
 
   pub sheet-long : (c : ℕ) → c ≤ left counts s → length (sheetOf counts s c) ≡ 83 + 3 * c

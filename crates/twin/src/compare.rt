@@ -32,10 +32,14 @@ fn compare_strip(tally: &mut Tally, stock: &[u16], book: &[u8], i: usize, work: 
 fn compare_moves(tally: &mut Tally, stock: &[u16], book: &[u8], i: usize, work: &mut [u8]) {
     note(
         tally,
-        tally::FORWARD,
+        tally::WALK_ON,
         move_agrees(stock, book, i, false, work),
     );
-    note(tally, tally::BACK, move_agrees(stock, book, i, true, work));
+    note(
+        tally,
+        tally::WALK_BACK,
+        move_agrees(stock, book, i, true, work),
+    );
 }
 
 // The strip of a number with the last strip, and with the one on from it where there is one.
@@ -61,19 +65,26 @@ fn compare_strips(tally: &mut Tally, stock: &[u16], book: &[u8], work: &mut [u8]
     }
 }
 
-// Run with the room of a lent list, and its moves one by one.
-fn compare_run(tally: &mut Tally, stock: &[u16], book: &[u8], work: &mut [u8], list: &mut [u8]) {
-    note(tally, tally::RUN, run_agrees(stock, book, work, list));
-    replay(tally, book, work, list);
+// Run on or back with the room of a lent list, and its moves one by one.
+fn compare_run(
+    tally: &mut Tally,
+    stock: &[u16],
+    book: &[u8],
+    work: &mut [u8],
+    back: bool,
+    list: &mut [u8],
+) {
+    note(tally, tally::RUN, run_agrees(stock, book, work, back, list));
+    replay(tally, book, work, back, list);
 }
 
 // Run with room for every move of the book, and with room for half of them, since a move takes two bytes.
-fn compare_runs(tally: &mut Tally, stock: &[u16], book: &[u8], work: &mut [u8]) {
+fn compare_runs(tally: &mut Tally, stock: &[u16], book: &[u8], work: &mut [u8], back: bool) {
     let mut list: [u8; 10080] = [0; 10080];
-    compare_run(tally, stock, book, work, &mut list);
+    compare_run(tally, stock, book, work, back, &mut list);
     let moves = last(book);
     if moves <= 10080 {
-        compare_run(tally, stock, book, work, &mut list[0..moves]);
+        compare_run(tally, stock, book, work, back, &mut list[0..moves]);
     }
 }
 
@@ -82,7 +93,8 @@ pub fn compare_book(tally: &mut Tally, stock: &[u16], book: &[u8], work: &mut [u
     let first = strip_at(book, 0, work.len());
     note(tally, tally::COUNT, count_agrees(stock, book.len() / 8));
     note(tally, tally::FIRST, first_agrees(stock, first, work));
-    compare_runs(tally, stock, book, work);
+    compare_runs(tally, stock, book, work, false);
+    compare_runs(tally, stock, book, work, true);
     compare_strips(tally, stock, book, work);
     compare_dictionary(tally, stock, book, work);
 }

@@ -1,4 +1,4 @@
-// Forward and Back compared with a book.
+// Walk compared with a book.
 use crate::rows::beside;
 use crate::rows::copy;
 use crate::rows::directions_at;
@@ -9,17 +9,13 @@ use crate::single::directed;
 use crate::single::is;
 use walker::open::open;
 use walking::Moved;
-use walking::back::back;
-use walking::forward::forward;
+use walking::walk::walk;
 
-// Forward, or Back, with the walker that Open gives.
-fn walk(stock: &[u16], work: &mut [u8], backward: bool) -> Moved {
+// Walk with the walker that Open gives.
+fn walk_opened(stock: &[u16], work: &mut [u8], back: bool) -> Moved {
     let opened = open(stock, work);
     let walker = opened.walker;
-    if backward {
-        return back(stock, work, walker);
-    }
-    forward(stock, work, walker)
+    walk(stock, work, walker, back)
 }
 
 // The refusal and the places of a move from one strip to another; refusal 9 and no places where the strip stays.
@@ -48,7 +44,7 @@ pub fn move_agrees(stock: &[u16], book: &[u8], i: usize, backward: bool, work: &
     let from = strip_at(book, i, n);
     let to = strip_at(book, j, n);
     copy(work, from);
-    let moved = walk(stock, work, backward);
+    let moved = walk_opened(stock, work, backward);
     if !same(work, to) {
         return false;
     }

@@ -24,11 +24,23 @@ fn moves_of(list: &[u8], book: &[u8]) -> usize {
     most
 }
 
-fn run_from(stock: &[u16], first: &[u8], work: &mut [u8], list: &mut [u8]) -> Ran {
-    copy(work, first);
+// The number m further on than the first, or m further back than the last.
+fn number_after(book: &[u8], back: bool, m: usize) -> usize {
+    if back {
+        let end = last(book);
+        if m <= end {
+            return end - m;
+        }
+        return 0;
+    }
+    m
+}
+
+fn run_from(stock: &[u16], from: &[u8], work: &mut [u8], back: bool, list: &mut [u8]) -> Ran {
+    copy(work, from);
     let opened = open(stock, work);
     let walker = opened.walker;
-    run(stock, work, walker, list)
+    run(stock, work, walker, back, list)
 }
 
 fn answer_agrees(ran: Ran, moves: usize, ends: bool, directions: u8) -> bool {
@@ -36,7 +48,7 @@ fn answer_agrees(ran: Ran, moves: usize, ends: bool, directions: u8) -> bool {
     if ran.moves != moves as u64 {
         return false;
     }
-    if ran.last != ends {
+    if ran.ended != ends {
         return false;
     }
     if !is(refusal, 0) {
@@ -46,35 +58,45 @@ fn answer_agrees(ran: Ran, moves: usize, ends: bool, directions: u8) -> bool {
     directed(walker, directions)
 }
 
-// Run from the first strip with the room of a lent list.
-pub fn run_agrees(stock: &[u16], book: &[u8], work: &mut [u8], list: &mut [u8]) -> bool {
+// Run on from the first strip, or back from the last, with the room of a lent list.
+pub fn run_agrees(
+    stock: &[u16],
+    book: &[u8],
+    work: &mut [u8],
+    back: bool,
+    list: &mut [u8],
+) -> bool {
     let n = work.len();
     let moves = moves_of(list, book);
-    let ran = run_from(stock, strip_at(book, 0, n), work, list);
-    if !same(work, strip_at(book, moves, n)) {
+    let from = number_after(book, back, 0);
+    let to = number_after(book, back, moves);
+    let ran = run_from(stock, strip_at(book, from, n), work, back, list);
+    if !same(work, strip_at(book, to, n)) {
         return false;
     }
-    answer_agrees(ran, moves, moves == last(book), directions_at(book, moves))
+    answer_agrees(ran, moves, moves == last(book), directions_at(book, to))
 }
 
 // Makes a listed move, and compares the strip after it.
-fn replay_move(tally: &mut Tally, book: &[u8], work: &mut [u8], list: &[u8], i: usize) {
+fn replay_move(tally: &mut Tally, book: &[u8], work: &mut [u8], back: bool, list: &[u8], i: usize) {
     if i < list.len() / 2 {
         let low = list[2 * i];
         let high = list[2 * i + 1];
-        let to = strip_at(book, i + 1, work.len());
+        let number = number_after(book, back, i + 1);
+        let to = strip_at(book, number, work.len());
         note(tally, LISTED, exchange_gives(work, low, high, to));
     }
 }
 
-// Makes the listed moves on the first strip.
-pub fn replay(tally: &mut Tally, book: &[u8], work: &mut [u8], list: &[u8]) {
-    let first = strip_at(book, 0, work.len());
-    copy(work, first);
+// Makes the listed moves on the first strip, or on the last.
+pub fn replay(tally: &mut Tally, book: &[u8], work: &mut [u8], back: bool, list: &[u8]) {
+    let number = number_after(book, back, 0);
+    let from = strip_at(book, number, work.len());
+    copy(work, from);
     let moves = moves_of(list, book);
     let mut i = 0;
     while i < moves {
-        replay_move(tally, book, work, list, i);
+        replay_move(tally, book, work, back, list, i);
         i += 1;
     }
 }

@@ -15,9 +15,9 @@ pub const STRIP: usize = 3;
 
 pub const OPEN: usize = 4;
 
-pub const FORWARD: usize = 5;
+pub const WALK_ON: usize = 5;
 
-pub const BACK: usize = 6;
+pub const WALK_BACK: usize = 6;
 
 pub const RUN: usize = 7;
 
@@ -81,8 +81,8 @@ fn print_single(tally: &Tally) {
 }
 
 fn print_moves(tally: &Tally) {
-    line(b"Forward: ", tally, FORWARD);
-    line(b"Back: ", tally, BACK);
+    line(b"Walk on: ", tally, WALK_ON);
+    line(b"Walk back: ", tally, WALK_BACK);
     line(b"Run: ", tally, RUN);
     line(b"Moves that Run lists: ", tally, LISTED);
 }

@@ -1,8 +1,9 @@
 -- Proofs. The smallest kind at which two walkers differ: a loop that looks for it, and that two walkers that differ nowhere are the same.
-use Prim.Native.Nat.{ℕ, suc, _+_, _≤_, _<_}
+use Prim.Native.Nat.{ℕ, zero, suc, _+_, _≤_, _<_}
 use mathlib.Core.Path.{_≡_, refl, sym, ap, _∙_}
 use mathlib.Core.Bool.{Bool, true, false, not, Bool·beq}
 use mathlib.Core.List.{List, [], _∷_, _++_}
+use native.Mathlib.Decide.{ℕ-discrete}
 use native.Mathlib.Numerals.{add-one}
 use native.Mathlib.Omega.{arith}
 use borrow.Author.Tests.{not-true, not-false}
@@ -11,13 +12,13 @@ use lib.Seq.{drop-cons}
 use Rattle.rules.specs.Stock.{IsStock, IsStrip}
 use Rattle.rules.specs.Refusals.{No, fine, atPlace, firstOf, checkNos}
 use Rattle.rules.proofs.Refusals.{at-place, refused-first, passed-first, passed-both, unless-passed}
-use Rattle.rules.proofs.Checks.{at-passed, passed-head, accepted-both}
+use Rattle.rules.proofs.Checks.{at-passed, passed-head, accepted-both, accepted-both-back, check-to-six}
 use Rattle.stock.specs.Refused.{refusal}
 use Rattle.stock.proofs.Tested.{passed, stopped}
 use Rattle.walker.specs.declared.Walker.{Walker}
 use Rattle.walker.specs.declared.open.Opened.{Opened}
 use Rattle.walker.specs.Answers.{openAnswer}
-use Rattle.walker.specs.Walkers.{walkerOf, alike, differingFrom, walkerNo}
+use Rattle.walker.specs.Walkers.{walkerOf, alike, differingFrom, walkerNo, walkerNos}
 use Rattle.walker.proofs.ByKind.{walker-to, to-long}
 
 alike-is : (a b : Bool) → alike a b ≡ Bool·beq a b
@@ -98,6 +99,23 @@ accepted-walker counts s w l h =
     let p = passed-both (checkNos counts s) (walkerNo counts s w ∷ []) h in
     let b = accepted-both counts s (p .0) in
     (b .0, b .1, walker-passed counts s w l (passed-head (walkerNo counts s w) [] (p .1) .0))
+
+pub accepted-walker-back : (counts s : List ℕ) (w : Walker) → IsStock counts → IsStrip counts s → w ≡ walkerOf counts s → firstOf (walkerNos counts s w) ≡ fine
+unfolding firstOf
+accepted-walker-back counts s w k h v = passed-first (checkNos counts s) (walkerNo counts s w ∷ []) (accepted-both-back counts s k h) ∙ rw (v, walker-accepted counts s)
+
+-- none of 1 to 6 and 10 is 9
+ten : (p : ℕ) → firstOf (atPlace 10 p ∷ []) .0 ≡ 9 → ⊥
+unfolding firstOf
+ten zero e = omega arith
+ten (suc p) e = omega arith
+
+pub never-nine : (counts s : List ℕ) (w : Walker) → firstOf (walkerNos counts s w) .0 ≡ 9 → ⊥
+unfolding walkerNo
+never-nine counts s w e = elim (ℕ-discrete (firstOf (checkNos counts s) .0) 0) [
+  | yes z ↦ ten (differingFrom 1 (w .back) (walkerOf counts s .back)) (rw (passed-first (checkNos counts s) (walkerNo counts s w ∷ []) z) at e)
+  | no z ↦ omega (arith, check-to-six counts s, rw (refused-first (checkNos counts s) (walkerNo counts s w ∷ []) z) at e)
+]
 
 -- ---- 10, after 1 to 6, as a check finds it
 

@@ -14,7 +14,7 @@ use Rattle.rules.specs.Refusals.{fine}
 use Rattle.rules.proofs.Walk.{Move, Leads}
 use Rattle.rules.proofs.Strips.{number, moveOf, on, back, on-none, back-none}
 use Rattle.rules.proofs.Places.{place-number, place-below, book-only}
-use Rattle.walking.specs.Answers.{onward, beside, left, endNo}
+use Rattle.walking.specs.Answers.{along, leftAlong, beside, endNo}
 
 -- what refusal 9 says of a strip, and where it does not refuse, that the move leads to the strip beside
 abbrev pub Outcome : Bool → List ℕ → List ℕ → Option Move → Type 0
@@ -36,7 +36,7 @@ module _ (counts s : List ℕ) (h : IsStrip counts s) where
   ends d e r = rw e r
 
   pub outcome : (d : Bool) → Outcome d counts s (moveOf d counts s)
-  unfolding beside onward endNo left
+  unfolding along endNo leftAlong
   outcome false = elim (decLt (suc n) (total counts)) [
     | yes l ↦ leads false (moveOf false counts s) (rw (ne-eqb (total counts - 1 - n) 0 (omega arith))) (rw (add-one n) (book-only counts (suc n) l)) (rw (add-one n, at) (on counts s h (rw at at l)))
     | no l ↦ ends false (on-none counts s h (omega (arith, place-below counts s h, at))) (rw (eq-eqb (total counts - 1 - n) 0 (omega arith)))

@@ -1,8 +1,9 @@
 -- Proofs: nobody needs to read these to know what holds.
 mod OneKind
 mod Beside
+pub mod Numbers
 pub mod OneMove
-pub mod Onward
+pub mod Along
 pub mod Stepped
 pub mod Walked
 pub mod Called

@@ -5,13 +5,12 @@ use mathlib.Core.Bool.{Bool, true, false}
 use mathlib.Core.List.{List, [], _∷_}
 use lib.Dec.{eqb}
 use Rattle.rules.specs.Stock.{IsStrip}
-use Rattle.rules.specs.Book.{book, placeIn}
 use Rattle.rules.specs.Neighbours.{places}
 use Rattle.rules.specs.Refusals.{fine, when}
 use Rattle.walker.specs.declared.Walker.{Walker}
 use Rattle.walker.specs.Walkers.{walkerOf}
 use Rattle.walking.specs.declared.Moved.{Moved}
-use Rattle.walking.specs.Answers.{beside, left, endNo}
+use Rattle.walking.specs.Answers.{leftAlong, beside, endNo}
 use Rattle.walking.specs.Checked.{Checked, stepAnswer, stepStrip}
 use Rattle.walking.proofs.OneMove.{made}
 
@@ -25,15 +24,13 @@ when-some n false h = absurd (h refl)
 when-some n true h = refl
 
 module _ (counts s : List ℕ) where
-  end-none : (d : Bool) → endNo d counts s .0 ≡ 0 → endNo d counts s ≡ fine
+  pub end-none : (d : Bool) → endNo d counts s .0 ≡ 0 → endNo d counts s ≡ fine
   unfolding endNo
-  end-none false = when-none 9 (eqb (left counts s) 0)
-  end-none true = when-none 9 (eqb (placeIn (book counts) s) 0)
+  end-none d = when-none 9 (eqb (leftAlong d counts s) 0)
 
   end-some : (d : Bool) → (endNo d counts s .0 ≡ 0 → ⊥) → endNo d counts s ≡ (9, 0)
   unfolding endNo
-  end-some false = when-some 9 (eqb (left counts s) 0)
-  end-some true = when-some 9 (eqb (placeIn (book counts) s) 0)
+  end-some d = when-some 9 (eqb (leftAlong d counts s) 0)
 
 -- what a step that was made gives: the strip beside, its places and its walker
 pub record Step (d : Bool) (counts s : List ℕ) (r : Moved) (t : List ℕ) : Type 0 where

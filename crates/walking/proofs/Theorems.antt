@@ -1,9 +1,8 @@
--- Theorems on Forward and Back, over their contracts as the functions state them: `Post` says which answers they allow for which input.
-use Prim.Native.Nat.{ℕ, _+_, _-_, _<_}
+-- Theorems on Walk, over its contract as the function states it: `Post` says which answers it allows for which input. Its fourth parameter is the direction.
+use Prim.Native.Nat.{ℕ, _<_}
 use mathlib.Core.Path.{_≡_, refl, sym, _∙_}
-use mathlib.Core.Bool.{Bool, true, false}
+use mathlib.Core.Bool.{Bool}
 use mathlib.Core.List.{List, [], _∷_}
-use native.Mathlib.Omega.{arith}
 use lib.ListN.{getD}
 use contract.Lifetimes.{Lfts}
 use borrow.Fn.Kinds.{Dens, endedOf}
@@ -18,46 +17,33 @@ use Rattle.walker.specs.declared.Walker.{Walker}
 use Rattle.walker.specs.Walkers.{walkerOf, allForward}
 use Rattle.walker.specs.Answers.{openAnswer}
 use Rattle.walking.specs.declared.Moved.{Moved}
-use Rattle.walking.specs.Answers.{onward, beside, moveAnswer, moveStrip}
+use Rattle.walking.specs.Answers.{shifted, ahead, along, leftAlong, beside, moveAnswer, moveStrip}
 use Rattle.walking.specs.Walks.{after, numberAfter, StayBelow}
-use Rattle.walking.proofs.Right.{HasBeside, MoveRight, right, beside-allowed, rows-back}
-use Rattle.walking.proofs.forward.forward.Kinds as forward
-use Rattle.walking.proofs.forward.forward.Reads as forward-reads
-use Rattle.walking.proofs.back.back.Kinds as back
-use Rattle.walking.proofs.back.back.Reads as back-reads
+use Rattle.walking.proofs.Numbers.{shifted-below}
+use Rattle.walking.proofs.Along.{left-allowed}
+use Rattle.walking.proofs.Right.{MoveRight, right, nine-decides}
+use Rattle.walking.proofs.walk.walk.Kinds as walk
+use Rattle.walking.proofs.walk.walk.Reads as reads
 
--- ---- one outcome: two that the contract allows for one input are the same
+-- two outcomes that the contract allows for one input are the same
+pub walk-one-outcome : OneOutcome 2 walk.ps walk.r (λ κs s. s .1 .0 .now) reads.Post
+walk-one-outcome κs a x y s t h k = (h .0 ∙ sym (k .0), h .1 ∙ sym (k .1))
 
-pub forward-one-outcome : OneOutcome 2 forward.ps forward.r (λ κs s. s .1 .0 .now) forward-reads.Post
-forward-one-outcome κs a x y s t h k = (h .0 ∙ sym (k .0), h .1 ∙ sym (k .1))
+-- each outcome that the contract allows is right
+pub walk-right : (κs : Lfts 2) (a : Dens κs walk.ps) (r : Moved) (s : AtExit (endedOf 2 walk.ps walk.r) κs) → reads.Post κs a r s
+    → MoveRight (a .1 .1 .1 .0) (a .0 .now) (a .1 .0 .now) (a .1 .1 .0) r (s .1 .0 .now)
+walk-right κs a r s h = right (a .1 .1 .1 .0) _ _ _ r _ h
 
-pub back-one-outcome : OneOutcome 2 back.ps back.r (λ κs s. s .1 .0 .now) back-reads.Post
-back-one-outcome κs a x y s t h k = (h .0 ∙ sym (k .0), h .1 ∙ sym (k .1))
-
--- ---- each outcome that the contract allows is right
-
-pub forward-right : (κs : Lfts 2) (a : Dens κs forward.ps) (r : Moved) (s : AtExit (endedOf 2 forward.ps forward.r) κs) → forward-reads.Post κs a r s
-    → MoveRight false (a .0 .now) (a .1 .0 .now) (a .1 .1 .0) r (s .1 .0 .now)
-forward-right κs a r s h = right false _ _ _ r _ h
-
-pub back-right : (κs : Lfts 2) (a : Dens κs back.ps) (r : Moved) (s : AtExit (endedOf 2 back.ps back.r) κs) → back-reads.Post κs a r s
-    → MoveRight true (a .0 .now) (a .1 .0 .now) (a .1 .1 .0) r (s .1 .0 .now)
-back-right κs a r s h = right true _ _ _ r _ h
-
--- ---- and is one move of a walk
+-- ---- each is one move of a walk
 
 pub move-after : (d : Bool) (counts s : List ℕ) (w : Walker) (r : Moved) (t : List ℕ) → (r ≡ moveAnswer d counts s w) × (t ≡ moveStrip d counts s w)
     → after counts (d ∷ []) s w ≡ (t, r .walker)
 unfolding after
 move-after d counts s w r t is = rw (is .0, is .1) refl
 
-pub forward-after : (κs : Lfts 2) (a : Dens κs forward.ps) (r : Moved) (s : AtExit (endedOf 2 forward.ps forward.r) κs) → forward-reads.Post κs a r s
-    → after (a .0 .now) (false ∷ []) (a .1 .0 .now) (a .1 .1 .0) ≡ (s .1 .0 .now, r .walker)
-forward-after κs a r s h = move-after false _ _ _ r _ h
-
-pub back-after : (κs : Lfts 2) (a : Dens κs back.ps) (r : Moved) (s : AtExit (endedOf 2 back.ps back.r) κs) → back-reads.Post κs a r s
-    → after (a .0 .now) (true ∷ []) (a .1 .0 .now) (a .1 .1 .0) ≡ (s .1 .0 .now, r .walker)
-back-after κs a r s h = move-after true _ _ _ r _ h
+pub walk-after : (κs : Lfts 2) (a : Dens κs walk.ps) (r : Moved) (s : AtExit (endedOf 2 walk.ps walk.r) κs) → reads.Post κs a r s
+    → after (a .0 .now) (a .1 .1 .1 .0 ∷ []) (a .1 .0 .now) (a .1 .1 .0) ≡ (s .1 .0 .now, r .walker)
+walk-after κs a r s h = move-after (a .1 .1 .1 .0) _ _ _ r _ h
 
 -- ---- demand 3
 
@@ -66,21 +52,18 @@ module _ (counts : List ℕ) (k : IsStock counts) where
   at i = getD (book counts) i []
 
   -- a move from the strip at i leads to the strip beside
-  one-move : (d : Bool) (i : ℕ) → i < total counts → HasBeside d (total counts) i → (moveStrip d counts (at i) (walkerOf counts (at i)) ≡ beside d counts (at i)) × (moveAnswer d counts (at i) (walkerOf counts (at i)) .walker ≡ walkerOf counts (beside d counts (at i)))
-  unfolding moveStrip moveAnswer
+  one-move : (d : Bool) (i : ℕ) → i < total counts → 0 < ahead d (total counts) i → (moveStrip d counts (at i) (walkerOf counts (at i)) ≡ beside d counts (at i)) × (moveAnswer d counts (at i) (walkerOf counts (at i)) .walker ≡ walkerOf counts (beside d counts (at i)))
+  unfolding moveStrip moveAnswer leftAlong
   one-move d i l b =
-      let e = rows-back d counts (at i) (walkerOf counts (at i)) k (book-only counts i l) refl (beside-allowed counts (at i) d (rw (book-place counts i l) b)) in
+      let e = nine-decides d counts (at i) (walkerOf counts (at i)) k (book-only counts i l) refl ∙ left-allowed d counts (at i) (rw (book-place counts i l) b) in
       rw e (refl, refl)
 
   walks : (ds : List Bool) (i : ℕ) → i < total counts → StayBelow (total counts) ds i → after counts ds (at i) (walkerOf counts (at i)) ≡ (at (numberAfter ds i), walkerOf counts (at (numberAfter ds i)))
-  unfolding after numberAfter beside onward
+  unfolding after numberAfter along
   walks [] i l w = refl
-  walks (false ∷ ds) i l w =
-      let m = one-move false i l (w .0) in
-      rw (m .0, m .1, book-place counts i l) (walks ds (i + 1) (w .0) (w .1))
-  walks (true ∷ ds) i l w =
-      let m = one-move true i l (w .0) in
-      rw (m .0, m .1, book-place counts i l) (walks ds (i - 1) (omega arith) (w .1))
+  walks (d ∷ ds) i l w =
+      let m = one-move d i l (w .0) in
+      rw (m .0, m .1, book-place counts i l) (walks ds (shifted d i 1) (shifted-below (total counts) i 1 l d (w .0)) (w .1))
 
   pub walk-from : (s : List ℕ) → IsStrip counts s → (ds : List Bool) → StayBelow (total counts) ds (placeIn (book counts) s)
       → after counts ds s (walkerOf counts s) ≡ (at (numberAfter ds (placeIn (book counts) s)), walkerOf counts (at (numberAfter ds (placeIn (book counts) s))))

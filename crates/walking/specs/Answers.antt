@@ -1,4 +1,5 @@
--- TO BE BELIEVED. What Forward and Back answer, by the book and the table of refusals, and what they leave in the lent strip.
+-- TO BE BELIEVED. What a move on or back answers, by the book and the table of refusals, and what it leaves in the lent strip. A direction is true for back;
+-- what it means is said of numbers, by `shifted` and `ahead`, and all else follows from these two.
 use Prim.Native.Nat.{ℕ, _+_, _-_}
 use mathlib.Core.Bool.{Bool, true, false}
 use mathlib.Core.List.{List, [], _∷_, _++_}
@@ -13,26 +14,40 @@ use Rattle.walker.specs.declared.Walker.{Walker}
 use Rattle.walker.specs.Walkers.{walkerOf, walkerNo}
 use Rattle.walking.specs.declared.Moved.{Moved}
 
--- the strip of the book that is m numbers further on
-unfoldable pub onward : List ℕ → List ℕ → ℕ → List ℕ
-onward counts s m = getD (book counts) (placeIn (book counts) s + m) []
+-- the number m further on than number i, or at true further back
+abbrev pub shifted : Bool → ℕ → ℕ → ℕ
+shifted false i m = i + m
+shifted true i m = i - m
+
+-- of n numbers, from 0, how many come after number i, or at true before it
+abbrev pub ahead : Bool → ℕ → ℕ → ℕ
+ahead false n i = n - 1 - i
+ahead true n i = i
+
+-- the strip of the book that is m numbers further on, or at true further back
+unfoldable pub along : Bool → List ℕ → List ℕ → ℕ → List ℕ
+along back counts s m = getD (book counts) (shifted back (placeIn (book counts) s) m) []
+
+-- how many strips of the book come after a strip, or at true before it
+unfoldable pub leftAlong : Bool → List ℕ → List ℕ → ℕ
+leftAlong back counts s = ahead back (total counts) (placeIn (book counts) s)
 
 -- the next strip of the book, or at true the one before
-unfoldable pub beside : Bool → List ℕ → List ℕ → List ℕ
-unfolding onward
-beside false counts s = onward counts s 1
-beside true counts s = getD (book counts) (placeIn (book counts) s - 1) []
+abbrev pub beside : Bool → List ℕ → List ℕ → List ℕ
+beside back counts s = along back counts s 1
 
--- how many strips of the book come after a strip
-unfoldable pub left : List ℕ → List ℕ → ℕ
-left counts s = total counts - 1 - placeIn (book counts) s
+-- of moves on, as a sheet has them
+abbrev pub onward : List ℕ → List ℕ → ℕ → List ℕ
+onward counts s m = along false counts s m
+
+abbrev pub left : List ℕ → List ℕ → ℕ
+left counts s = leftAlong false counts s
 
 -- 9: no next strip, or at true no previous one
 unfoldable pub endNo : Bool → List ℕ → List ℕ → No
-endNo false counts s = when 9 (eqb (left counts s) 0)
-endNo true counts s = when 9 (eqb (placeIn (book counts) s) 0)
+endNo back counts s = when 9 (eqb (leftAlong back counts s) 0)
 
--- ---- Forward (at false) and Back (at true): refusals 1 to 6, then 10, then 9
+-- ---- Walk, one move on or at true back: refusals 1 to 6, then 10, then 9
 
 unfoldable pub moveNos : Bool → List ℕ → List ℕ → Walker → List No
 moveNos back counts s w = checkNos counts s ++ (walkerNo counts s w ∷ endNo back counts s ∷ [])

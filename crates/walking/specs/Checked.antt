@@ -4,10 +4,12 @@ use mathlib.Core.Path.{_≡_}
 use mathlib.Core.Bool.{Bool}
 use mathlib.Core.Option.{Option, none, some}
 use mathlib.Core.List.{List, [], _∷_}
+use lib.ListN.{length}
 use Rattle.rules.specs.Stock.{IsStock, IsStrip}
 use Rattle.rules.specs.Neighbours.{places}
 use Rattle.rules.specs.Refusals.{fine, unless}
 use Rattle.rules.proofs.Walk.{Move}
+use Rattle.rules.proofs.Strips.{moveOf}
 use Rattle.walker.specs.declared.Walker.{Walker}
 use Rattle.walker.specs.Walkers.{walkerOf}
 use Rattle.walker.specs.Turned.{turnedAbove}
@@ -26,6 +28,14 @@ abbrev pub found : ℕ → Option Move → Found
 found k none = record { kind = 0; low = 0; high = 0 }
 found k (some m) = record { kind = k - m .skip; low = m .p; high = m .q }
 
+-- what was found is the strip's move on, or at true back
+abbrev pub IsMove : Bool → List ℕ → List ℕ → Found → Type 0
+IsMove back counts s m = m ≡ found (length counts) (moveOf back counts s)
+
+-- it was looked for in one of the directions
+abbrev pub Sought : List ℕ → List ℕ → Found → Type 0
+Sought counts s m = (back : Bool) × IsMove back counts s m
+
 -- the answer of a move that was found, of k kinds, and its walker from the one before
 abbrev pub asMade : Found → ℕ → Walker → Moved
 asMade m k w = asMoved fine ((m .low + 1) ∷ (m .high + 1) ∷ []) (turnedAbove (m .kind) k w)
@@ -39,3 +49,7 @@ stepAnswer back counts s w =
 
 unfoldable pub stepStrip : Bool → List ℕ → List ℕ → List ℕ
 stepStrip back counts s = unless (endNo back counts s) s (beside back counts s)
+
+-- the answer r and the strip t are those of a step in the direction in which m was looked for
+abbrev pub IsStep : List ℕ → List ℕ → Walker → Found → Moved → List ℕ → Type 0
+IsStep counts s w m r t = (back : Bool) → IsMove back counts s m → (r ≡ stepAnswer back counts s w) × (t ≡ stepStrip back counts s)

@@ -1,4 +1,4 @@
--- What Forward and Back answer and what a walk is (to be believed), and what the functions behind the calls promise.
+-- What Walk answers and what a walk is (to be believed), and what the functions behind the calls promise.
 pub mod Answers
 pub mod Walks
 pub mod Checked

@@ -8,9 +8,8 @@ ghost use Prim.Native.Nat.{_≤_};
 ghost use mathlib.Core.Path.{_≡_};
 ghost use lib.ListN.{length};
 ghost use Rattle.rules.proofs.Index.{rests};
-ghost use Rattle.rules.proofs.Strips.{moveOf};
 ghost use Rattle.moves.specs.Steps.{stepOf};
-ghost use Rattle.walking.specs.Checked.{Checked, found};
+ghost use Rattle.walking.specs.Checked.{Checked, IsMove};
 
 // The kind that moves, and the two places from 0, smaller first. No move: kind 0.
 pub struct Found {
@@ -19,13 +18,20 @@ pub struct Found {
     pub high: usize,
 }
 
-// One kind's own move, on or back in the list of its patterns: read from the left end of the word, or by the rule's recursion.
-fn step_to(word: &[u8], kind: u8, others: usize, heading: bool, from_left: bool) -> Step
+// The two finders of one kind's own move: by the first runs of its word, or by the rule's own recursion. Both promise the same, so no contract names one.
+enum Finder {
+    Left,
+    Rule,
+}
+
+// One kind's own move, on or back in the list of its patterns.
+fn step_to(finder: Finder, word: &[u8], kind: u8, others: usize, heading: bool) -> Step
     requires { ⌜ (length (now word) ≤ 64) × (others ≡ rests kind (now word)) ⌝ }
     ensures { λ r. ⌜ r ≡ stepOf heading kind (now (word .entry)) ⌝ }
 {
-    if from_left {
-        return step_left(word, kind, others, heading);
+    match finder {
+        Finder::Left => return step_left(word, kind, others, heading),
+        Finder::Rule => {}
     }
     if heading {
         return prev(word, kind, others);
@@ -34,11 +40,10 @@ fn step_to(word: &[u8], kind: u8, others: usize, heading: bool, from_left: bool)
 }
 
 // The move on, or back: the last kind moves if it can, and if not, a kind before it. A kind that cannot move stands whole in front of the kinds
-// below it or behind them, so that their blocks are a part of the strip, from lo to before hi. Both finders promise the same, so the flag that
-// names one of them stands in no contract.
-pub fn find(stock: &[u16], strip: &[u8], walker: Walker, back: bool, from_left: bool) -> Found
+// below it or behind them, so that their blocks are a part of the strip, from lo to before hi.
+fn find_by(finder: Finder, stock: &[u16], strip: &[u8], walker: Walker, back: bool) -> Found
     requires { ⌜ Checked (now stock) (now strip) walker ⌝ }
-    ensures { λ r. ⌜ r ≡ found (length (now (stock .entry))) (moveOf back (now (stock .entry)) (now (strip .entry))) ⌝ }
+    ensures { λ r. ⌜ IsMove back (now (stock .entry)) (now (strip .entry)) r ⌝ }
 {
     let mut lo: usize = 0;
     let mut hi = strip.len();
@@ -49,11 +54,11 @@ pub fn find(stock: &[u16], strip: &[u8], walker: Walker, back: bool, from_left: 
         let amount = stock[j] as usize;
         let heading = walker.back[j] != back;
         let m = step_to(
+            finder,
             &strip[lo..hi],
             kind as u8,
             hi - lo - amount,
             heading,
-            from_left,
         );
         if m.found {
             return Found {
@@ -73,4 +78,20 @@ pub fn find(stock: &[u16], strip: &[u8], walker: Walker, back: bool, from_left: 
         low: 0,
         high: 0,
     }
+}
+
+// The move, found from the left: most moves happen there, so this is the finder for many moves.
+pub fn find(stock: &[u16], strip: &[u8], walker: Walker, back: bool) -> Found
+    requires { ⌜ Checked (now stock) (now strip) walker ⌝ }
+    ensures { λ r. ⌜ IsMove back (now (stock .entry)) (now (strip .entry)) r ⌝ }
+{
+    find_by(Finder::Left, stock, strip, walker, back)
+}
+
+// The same move, found by the rule's own recursion.
+pub fn find_by_rule(stock: &[u16], strip: &[u8], walker: Walker, back: bool) -> Found
+    requires { ⌜ Checked (now stock) (now strip) walker ⌝ }
+    ensures { λ r. ⌜ IsMove back (now (stock .entry)) (now (strip .entry)) r ⌝ }
+{
+    find_by(Finder::Rule, stock, strip, walker, back)
 }

@@ -1,14 +1,12 @@
 // Walking: moving a strip on and back through its book.
-pub mod back;
 pub mod finding;
-pub mod forward;
-mod moving;
 pub mod stepping;
+pub mod walk;
 
 use stock::Refusal;
 use walker::Walker;
 
-// What Forward and Back answer: the two places that were exchanged, smaller first, and the walker of the strip as it then stands.
+// What Walk answers: the two places that were exchanged, smaller first, and the walker of the strip as it then stands.
 #[repr(C)]
 pub struct Moved {
     pub refusal: Refusal,

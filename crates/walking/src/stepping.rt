@@ -9,7 +9,7 @@ ghost use Prim.Native.Nat.{_≤_, _<_};
 ghost use mathlib.Core.Path.{_≡_};
 ghost use lib.ListN.{length};
 ghost use Rattle.rules.proofs.Exchange.{swap};
-ghost use Rattle.walking.specs.Checked.{Checked, asMade, stepAnswer, stepStrip};
+ghost use Rattle.walking.specs.Checked.{Checked, Sought, IsStep, asMade, stepAnswer, stepStrip};
 
 // Makes a move that was found: exchanges two blocks and turns the kinds above the one that moved.
 pub fn make(stock: &[u16], strip: &mut [u8], walker: Walker, m: Found) -> Moved
@@ -32,12 +32,11 @@ pub fn make(stock: &[u16], strip: &mut [u8], walker: Walker, m: Found) -> Moved
     }
 }
 
-// Moves the strip on, or back. No move: refusal 9.
-pub fn step(stock: &[u16], strip: &mut [u8], walker: Walker, back: bool, from_left: bool) -> Moved
-    requires { ⌜ Checked (now stock) (now strip) walker ⌝ }
-    ensures { λ r. ⌜ (r ≡ stepAnswer back (now (stock .entry)) (now (strip .entry)) walker) × (now (strip .exit) ≡ stepStrip back (now (stock .entry)) (now (strip .entry))) ⌝ }
+// Makes the move that was looked for, on or back; where none was found, refusal 9.
+pub fn make_any(stock: &[u16], strip: &mut [u8], walker: Walker, m: Found) -> Moved
+    requires { ⌜ Checked (now stock) (now strip) walker × Sought (now stock) (now strip) m ⌝ }
+    ensures { λ r. ⌜ IsStep (now (stock .entry)) (now (strip .entry)) walker m r (now (strip .exit)) ⌝ }
 {
-    let m = find(stock, strip, walker, back, from_left);
     let kind = m.kind;
     if kind == 0 {
         return Moved {
@@ -48,4 +47,13 @@ pub fn step(stock: &[u16], strip: &mut [u8], walker: Walker, back: bool, from_le
         };
     }
     make(stock, strip, walker, m)
+}
+
+// Moves the strip on, or back. No move: refusal 9.
+pub fn step(stock: &[u16], strip: &mut [u8], walker: Walker, back: bool) -> Moved
+    requires { ⌜ Checked (now stock) (now strip) walker ⌝ }
+    ensures { λ r. ⌜ (r ≡ stepAnswer back (now (stock .entry)) (now (strip .entry)) walker) × (now (strip .exit) ≡ stepStrip back (now (stock .entry)) (now (strip .entry))) ⌝ }
+{
+    let m = find(stock, strip, walker, back);
+    make_any(stock, strip, walker, m)
 }

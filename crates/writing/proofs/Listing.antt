@@ -17,13 +17,13 @@ use Rattle.sheets.specs.Sheets.{moveRecords}
 use Rattle.sheets.proofs.Rest.{restOf, Filled, more}
 
 pub record Listing (counts s rest₀ t : List ℕ) (w : Walker) (rest : List ℕ) (at i : ℕ) : Type 0 where
-  pub walked : Walked counts s t w i
+  pub walked : Walked false counts s t w i
   pub place : at ≡ 3 * i
   pub filled : Filled rest₀ rest (moveRecords counts s i) at
 
 pub start : (counts s rest : List ℕ) (w : Walker) → Checked counts s w → Listing counts s rest s w rest 0 0
 unfolding moveRecords
-start counts s rest w c = record { walked = set-out counts s w c; place = refl; filled = record { room = omega arith; long = refl; put = refl } }
+start counts s rest w c = record { walked = set-out false counts s w c; place = refl; filled = record { room = omega arith; long = refl; put = refl } }
 
 module _ (counts s rest₀ t : List ℕ) (w : Walker) (rest : List ℕ) (at i : ℕ) (v : Listing counts s rest₀ t w rest at i) where
   -- a step, and its record in the rest behind the last
@@ -32,11 +32,11 @@ module _ (counts s rest₀ t : List ℕ) (w : Walker) (rest : List ℕ) (at i : 
       → Listing counts s rest₀ u (r .walker) (putMid at (length rest - at) rest ys) (at + 3) (i + 1)
   unfolding moveRecords
   on k h r u is l room ys kept e =
-      let z = allowed counts s t w i k h (v .walked) r u is l in
+      let z = allowed false counts s t w i k h (v .walked) r u is l in
       record {
-        walked = walks-on counts s t w i k h (v .walked) r u is z;
+        walked = walks-on false counts s t w i k h (v .walked) r u is z;
         place = omega (arith, v .place);
-        filled = rw (add-one i, shown counts s t w i k h (v .walked) r u is z) (more rest₀ rest (moveRecords counts s i) at (v .filled) 3 ys (3 ∷ r .low ∷ r .high ∷ []) room kept e);
+        filled = rw (add-one i, shown false counts s t w i k h (v .walked) r u is z) (more rest₀ rest (moveRecords counts s i) at (v .filled) 3 ys (3 ∷ r .low ∷ r .high ∷ []) room kept e);
       }
 
   -- all of them

@@ -19,7 +19,7 @@ pub fn has_moves(stock: &[u16], strip: &mut [u8], walker: Walker, moves: usize) 
     let mut walker = walker;
     let mut made: usize = 0;
     while made < moves {
-        let m = step(stock, strip, walker, false, true);
+        let m = step(stock, strip, walker, false);
         let refusal = m.refusal;
         let no = refusal.no;
         if no != 0 {
@@ -41,7 +41,7 @@ pub fn put_moves(rest: &mut [u8], stock: &[u16], strip: &mut [u8], walker: Walke
     let mut at: usize = 0;
     let mut listed: usize = 0;
     while listed < moves {
-        let m = step(stock, strip, walker, false, true);
+        let m = step(stock, strip, walker, false);
         put_move(&mut rest[at..], m.low, m.high);
         let next = m.walker;
         walker = next;

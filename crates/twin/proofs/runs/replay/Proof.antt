@@ -7,10 +7,10 @@ use Rattle.twin.proofs.runs.replay.Statement.{statement}
 use Rattle.twin.proofs.runs.replay.Tie as tie
 
 abbrev Inv-loop : tie.InvT-loop
-Inv-loop tally₀ book work₀ list moves i₀ tally work i = length work ≡ length work₀
+Inv-loop tally₀ book work₀ back list number moves i₀ tally work i = length work ≡ length work₀
 
 abbrev μ-loop : tie.MeasureT-loop
-μ-loop tally₀ book work₀ list moves i₀ tally work i = moves - i
+μ-loop tally₀ book work₀ back list number moves i₀ tally work i = moves - i
 
 pub replay-spec : {M : Type 1} → statement M
 replay-spec =
@@ -18,6 +18,7 @@ replay-spec =
     (tie.spec
     Inv-loop
     μ-loop
+    (λ c κs. tt)
     (λ c κs. tt)
     (λ c κs. tt)
     (λ c κs. tt)

@@ -7,9 +7,11 @@ pub step-to-spec : {M : Type 1} → statement M
 step-to-spec =
     tie.close
     (tie.spec
+    (λ c. search needs)
     (λ c κs. search needs)
     (λ c. c .step-left .ensures)
+    (λ c. search needs)
     (λ c κs. search needs)
-    (λ c. rw (c .before .if2 .taken) (c .prev .ensures))
+    (λ c. rw (c .before .if1 .taken) (c .prev .ensures))
     (λ c κs. search needs)
-    (λ c. rw (c .before .if2 .left) (c .next .ensures)))
+    (λ c. rw (c .before .if1 .left) (c .next .ensures)))

@@ -1,6 +1,7 @@
 -- `writing::moves::has_moves` meets its contract. The invariant: the walk has made so many moves.
 use Prim.Native.Nat.{_-_, _≤_}
 use mathlib.Core.Path.{_≡_, sym, _∙_}
+use mathlib.Core.Bool.{false}
 use native.Mathlib.Omega.{arith}
 use borrow.Author.Tests.{le-leb, lt-leb}
 use lib.ListN.{length}
@@ -11,7 +12,7 @@ use Rattle.writing.proofs.moves.has_moves.Statement.{statement}
 use Rattle.writing.proofs.moves.has_moves.Tie as tie
 
 abbrev Inv-loop : tie.InvT-loop
-Inv-loop stock strip₀ moves walker₀ made₀ strip walker made = (made ≤ moves) × Walked stock strip₀ strip walker made
+Inv-loop stock strip₀ moves walker₀ made₀ strip walker made = (made ≤ moves) × Walked false stock strip₀ strip walker made
 
 abbrev μ-loop : tie.MeasureT-loop
 μ-loop stock strip₀ moves walker₀ made₀ strip walker made = moves - made
@@ -19,10 +20,10 @@ abbrev μ-loop : tie.MeasureT-loop
 -- at the loop's head the strip and the walker are checked, and the strip is as long as it was
 module _ (b : tie.At-loop Inv-loop μ-loop) where
   ready : Checked (b .before .before .before .args .stock .now) (b .loop .strip) (b .loop .walker)
-  ready = let p = b .before .before .before .pre in checked _ _ _ _ _ (p .stock) (p .strip) (b .loop .inv .1)
+  ready = let p = b .before .before .before .pre in checked false _ _ _ _ _ (p .stock) (p .strip) (b .loop .inv .1)
 
   kept : length (b .loop .strip) ≡ length (b .before .before .before .args .strip .now)
-  kept = let p = b .before .before .before .pre in same-length _ _ _ _ _ (p .stock) (p .strip) (b .loop .inv .1)
+  kept = let p = b .before .before .before .pre in same-length false _ _ _ _ _ (p .stock) (p .strip) (b .loop .inv .1)
 
 returns : tie.Need-returns Inv-loop μ-loop
 returns c =
@@ -30,7 +31,7 @@ returns c =
     let b = s .before .before .before in
     let p = b .before .before .before .pre in
     let a = b .before .before .before .args in
-    let e = stopped _ _ _ _ _ (p .stock) (p .strip) (b .loop .inv .1) _ _ (s .step .ensures) (omega arith) in
+    let e = stopped false _ _ _ _ _ (p .stock) (p .strip) (b .loop .inv .1) _ _ (s .step .ensures) (omega arith) in
     sym (lt-leb (a .moves) (left (a .stock .now) (a .strip .now)) (omega (arith, e .0, s .before .before .loop-test .taken)))
 
 returns-2 : tie.Need-returns-2 Inv-loop μ-loop
@@ -43,7 +44,7 @@ loop-again c =
     let s = c .before .before .before .before .before in
     let b = s .before .before .before in
     let p = b .before .before .before .pre in
-    (omega (arith, s .before .before .loop-test .taken), on _ _ _ _ _ (p .stock) (p .strip) (b .loop .inv .1) _ _ (s .step .ensures) (omega arith))
+    (omega (arith, s .before .before .loop-test .taken), on false _ _ _ _ _ (p .stock) (p .strip) (b .loop .inv .1) _ _ (s .step .ensures) (omega arith))
 
 pub has-moves-spec : {M : Type 1} → statement M
 has-moves-spec =
@@ -51,7 +52,7 @@ has-moves-spec =
     (tie.spec
     Inv-loop
     μ-loop
-    (λ c. (omega arith, start _ _ _ (c .before .before .pre)))
+    (λ c. (omega arith, start false _ _ _ (c .before .before .pre)))
     (λ c κs. ready (c .before .before))
     (λ c. let s = c .before .before .before .before in s .step .kept .1 .0 ∙ kept (s .before .before .before))
     returns

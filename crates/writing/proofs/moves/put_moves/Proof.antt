@@ -1,6 +1,7 @@
 -- `writing::moves::put_moves` meets its contract. The invariant: the walk has made so many moves, and their records stand at the front of the rest.
 use Prim.Native.Nat.{_+_, _-_, _≤_}
 use mathlib.Core.Path.{_≡_}
+use mathlib.Core.Bool.{false}
 use native.Mathlib.Omega.{arith}
 use lib.ListN.{length}
 use Rattle.walking.specs.Checked.{Checked}
@@ -19,10 +20,10 @@ abbrev μ-loop : tie.MeasureT-loop
 -- at the loop's head the strip and the walker are checked, and the strip is as long as it was
 module _ (b : tie.At-loop Inv-loop μ-loop) where
   ready : Checked (b .before .before .before .before .args .stock .now) (b .loop .strip) (b .loop .walker)
-  ready = let p = b .before .before .before .before .pre .0 in checked _ _ _ _ _ (p .stock) (p .strip) (b .loop .inv .1 .walked)
+  ready = let p = b .before .before .before .before .pre .0 in checked false _ _ _ _ _ (p .stock) (p .strip) (b .loop .inv .1 .walked)
 
   kept : length (b .loop .strip) ≡ length (b .before .before .before .before .args .strip .now)
-  kept = let p = b .before .before .before .before .pre .0 in same-length _ _ _ _ _ (p .stock) (p .strip) (b .loop .inv .1 .walked)
+  kept = let p = b .before .before .before .before .pre .0 in same-length false _ _ _ _ _ (p .stock) (p .strip) (b .loop .inv .1 .walked)
 
   rest-kept : length (b .loop .rest) ≡ length (b .before .before .before .before .args .rest .now)
   rest-kept = same-long _ _ _ _ (b .loop .inv .1 .filled)

@@ -1,12 +1,13 @@
-// A move on or back of any stock, strip and walker.
+// Walk: the strip becomes the next one of its book, or where `back` the one before it.
 use crate::Moved;
-use crate::stepping::step;
+use crate::finding::find_by_rule;
+use crate::stepping::make_any;
 use walker::Walker;
 use walker::check::check_walker;
 ghost use mathlib.Core.Path.{_≡_};
 ghost use Rattle.walking.specs.Answers.{moveAnswer, moveStrip};
 
-// Refusals 1 to 6 and 10, then the step, which has 9.
+// Exchanges two blocks on the strip, and answers their places and the new walker. Refusals 1 to 6 and 10, then 9 where no move is found.
 pub fn walk(stock: &[u16], strip: &mut [u8], walker: Walker, back: bool) -> Moved
     ensures { λ r. ⌜ (r ≡ moveAnswer back (now (stock .entry)) (now (strip .entry)) walker) × (now (strip .exit) ≡ moveStrip back (now (stock .entry)) (now (strip .entry)) walker) ⌝ }
 {
@@ -20,5 +21,6 @@ pub fn walk(stock: &[u16], strip: &mut [u8], walker: Walker, back: bool) -> Move
             walker,
         };
     }
-    step(stock, strip, walker, back, false)
+    let m = find_by_rule(stock, strip, walker, back);
+    make_any(stock, strip, walker, m)
 }
