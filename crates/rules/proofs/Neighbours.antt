@@ -18,7 +18,7 @@ use Rattle.rules.proofs.Turned.{total-turned, book-turned, turned-lengt
 use Rattle.rules.proofs.Exchange.{Hop}
 use Rattle.rules.proofs.Books.{number′, listed-book}
 use Rattle.rules.proofs.Walk.{Swapped, Leads}
-use Rattle.rules.proofs.Strips.{number, moveOf, listed, on}
+use Rattle.rules.proofs.Strips.{number, moveOf, listed, leads}
 use Rattle.rules.proofs.Numbers.{first′, last′, first-is, last-is, first-runs, runs, put}
 
 -- ---- the places at which two strips differ
@@ -78,7 +78,7 @@ module _ (counts : List ℕ) (i : ℕ) (h : suc i < total counts) where
   step =
       let l = listed counts in
       let at : number counts (getD (book counts) i []) ≡ i = l .place i (omega arith) in
-      rw at at (on counts (getD (book counts) i []) (l .sound i (omega arith)) (rw at h))
+      leads counts (getD (book counts) i []) (l .sound i (omega arith)) false (suc i) h (ap suc at)
 
   -- two neighbours in the book differ by exchanging one block with one of a higher kind, with only blocks of that higher kind between them
   pub book-neighbours : Neighbours (getD (book counts) i []) (getD (book counts) (suc i) [])

@@ -1,8 +1,9 @@
--- Proofs. Numbers in a direction: only the laws of this file go by cases of it.
+-- Proofs. Numbers in a direction: what the two definitions of it come to. Of the laws of this crate only these go by cases of it.
 use Prim.Native.Nat.{ℕ, _+_, _-_, _≤_, _<_}
 use mathlib.Core.Path.{_≡_}
 use mathlib.Core.Bool.{Bool, true, false, not}
 use native.Mathlib.Omega.{arith}
+use Rattle.rules.proofs.Moves.{Onward, Final}
 use Rattle.walking.specs.Answers.{shifted, ahead}
 
 pub shifted-none : (d : Bool) (i : ℕ) → shifted d i 0 ≡ i
@@ -16,6 +17,15 @@ shifted-further true i m k = omega arith
 pub ahead-further : (d : Bool) (n i m : ℕ) → ahead d n (shifted d i m) ≡ ahead d n i - m
 ahead-further false n i m = omega arith
 ahead-further true n i m = omega arith
+
+-- in the terms of the rules: nothing is ahead of the last number, and what is beside is the number before or after
+pub none-ahead : (d : Bool) (n i : ℕ) → i < n → ahead d n i ≡ 0 → Final d n i
+none-ahead false n i l e = omega arith
+none-ahead true n i l e = e
+
+pub some-ahead : (d : Bool) (n i : ℕ) → 0 < ahead d n i → Onward d i (shifted d i 1)
+some-ahead false n i l = omega arith
+some-ahead true n i l = omega arith
 
 -- of n numbers, m of which are ahead of number i
 module _ (n i m : ℕ) (l : i < n) where

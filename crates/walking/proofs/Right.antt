@@ -22,8 +22,8 @@ use Rattle.walking.proofs.Along.{some-left, left-allowed, left-nine, al
 use Rattle.walking.proofs.Stepped.{end-none}
 use Rattle.walking.proofs.Called.{before-nine, at-nine}
 
--- it refuses no more and no less than the table says, by 9 exactly where no strip is left; accepted, the strip is the one beside, one exchange away, the places are those of the exchange
--- and the walker is that of the strip; refused, it gives 0, 0 and the walker that was lent, and leaves the strip
+-- it refuses no more and no less than the table says, and by 9 exactly where no strip is left; accepted, the strip is the one beside, one exchange away, the
+-- places are those of the exchange and the walker is that of the strip; refused, it gives 0, 0 and the walker that was lent, and leaves the strip
 pub record MoveRight (d : Bool) (counts s : List ℕ) (w : Walker) (r : Moved) (t : List ℕ) : Type 0 where
   pub accepts : length (w .back) ≡ 16 → r .refusal .no ≡ 0 → IsStock counts × IsStrip counts s × (w ≡ walkerOf counts s) × (0 < leftAlong d counts s)
   pub accepted : IsStock counts → IsStrip counts s → w ≡ walkerOf counts s → 0 < leftAlong d counts s → r .refusal .no ≡ 0
