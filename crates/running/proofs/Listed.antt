@@ -9,7 +9,7 @@ use Rattle.rules.specs.Stock.{IsStrip}
 use Rattle.rules.specs.Neighbours.{places}
 use Rattle.rules.proofs.Neighbours.{places-sym}
 use Rattle.walking.specs.Answers.{along, leftAlong}
-use Rattle.walking.proofs.Along.{two-places, along-strip, along-left, along-beside, along-back}
+use Rattle.walking.proofs.Along.{along-places, along-back}
 use Rattle.running.specs.Answers.{movesFrom}
 use Rattle.running.specs.Reversed.{inReverse}
 
@@ -21,17 +21,11 @@ reverse-last (x ∷ y ∷ l) zero a b h = absurd (omega arith)
 reverse-last (x ∷ y ∷ l) (suc k) a b h = rw (reverse-last l k a b (omega arith))
 
 module _ (d : Bool) (counts s : List ℕ) (h : IsStrip counts s) where
-  -- the two places of the move after i others
-  move-after : (i : ℕ) → i < leftAlong d counts s → (p : ℕ) × (q : ℕ) × (places (along d counts s i) (along d counts s (suc i)) ≡ p ∷ q ∷ [])
-  move-after i l =
-      let k : i ≤ leftAlong d counts s = omega arith in
-      rw (along-beside d counts s h i k) at (two-places d counts (along d counts s i) (along-strip d counts s h i k) (omega (arith, along-left d counts s h i k)))
-
   pub moves-long : (i : ℕ) → i ≤ leftAlong d counts s → length (movesFrom d counts s i) ≡ 2 * i
   unfolding movesFrom
   moves-long zero l = refl
   moves-long (suc i) l =
-      let m = move-after i l in
+      let m = along-places d counts s h i l in
       rw (m .2) (length-append (movesFrom d counts s i) (m .0 ∷ m .1 ∷ []) ∙ omega (arith, moves-long i (omega arith)))
 
   -- the moves of the way back are those of the way there, from the last to the first
@@ -44,7 +38,7 @@ module _ (d : Bool) (counts s : List ℕ) (h : IsStrip counts s) where
         → movesFrom (not d) counts t j ++ inReverse (movesFrom d counts s (suc i)) ≡ movesFrom (not d) counts t (suc j) ++ inReverse (movesFrom d counts s i)
     unfolding movesFrom
     one-back i k j from to =
-        let p = move-after i k in
+        let p = along-places d counts s h i k in
         let q : places (along d counts s (suc i)) (along d counts s i) ≡ p .0 ∷ p .1 ∷ [] = places-sym (along d counts s (suc i)) (along d counts s i) ∙ p .2 in
         let r = reverse-last (movesFrom d counts s i) i (p .0) (p .1) (moves-long i (omega arith)) in
         rw (from, to, p .2, q, r) (sym (append-assoc (movesFrom (not d) counts t j) (p .0 ∷ p .1 ∷ []) (inReverse (movesFrom d counts s i))))

@@ -8,10 +8,8 @@ use lib.ListN.{length, length-append}
 use Rattle.rules.specs.Stock.{IsStock, IsStrip}
 use Rattle.rules.specs.Neighbours.{places}
 use Rattle.rules.proofs.Strips.{strip-sum}
-use Rattle.walker.specs.Walkers.{walkerOf}
 use Rattle.walking.specs.Answers.{onward, left}
-use Rattle.walking.specs.Checked.{stepAnswer, stepStrip}
-use Rattle.walking.proofs.Walked.{Walked, allowed, shown}
+use Rattle.walking.proofs.Along.{along-places}
 use Rattle.sheets.specs.Sheets.{stockRecord, stripRecord, moveRecords, endRecord, sheetOf}
 use Rattle.sheets.proofs.Bodies.{padded-long}
 
@@ -20,13 +18,8 @@ module _ (counts s : List ℕ) (k : IsStock counts) (h : IsStrip counts s) where
   unfolding moveRecords
   moves-long zero l = refl
   moves-long (suc c) l =
-      let t = onward counts s c in
-      let w = walkerOf counts t in
-      let v : Walked false counts s t w c = record { made = omega arith; strip = refl; walker = refl } in
-      let r = stepAnswer false counts t w in
-      let u = stepStrip false counts t in
-      let p = shown false counts s t w c k h v r u (refl, refl) (allowed false counts s t w c k h v r u (refl, refl) l) in
-      length-append (moveRecords counts s c) (3 ∷ places t (onward counts s (suc c))) ∙ rw p (omega (arith, moves-long c (omega arith)))
+      let p = along-places false counts s h c l in
+      length-append (moveRecords counts s c) (3 ∷ places (onward counts s c) (onward counts s (suc c))) ∙ rw (p .2) (omega (arith, moves-long c (omega arith)))
 
   pub sheet-long : (c : ℕ) → c ≤ left counts s → length (sheetOf counts s c) ≡ 83 + 3 * c
   unfolding sheetOf stockRecord stripRecord

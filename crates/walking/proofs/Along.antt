@@ -75,3 +75,9 @@ module _ (d : Bool) (counts s : List ℕ) (h : IsStrip counts s) where
     pub along-back : (k : ℕ) → k ≤ i → along (not d) counts (along d counts s i) k ≡ along d counts s (i - k)
     unfolding along leftAlong
     along-back k m = rw (along-place, shifted-back (total counts) (placeIn (book counts) s) i (place-below counts s h) d l k m)
+
+-- the move after i others exchanges two places
+pub along-places : (d : Bool) (counts s : List ℕ) → IsStrip counts s → (i : ℕ) → i < leftAlong d counts s → (p : ℕ) × (q : ℕ) × (places (along d counts s i) (along d counts s (suc i)) ≡ p ∷ q ∷ [])
+along-places d counts s h i l =
+    let k : i ≤ leftAlong d counts s = omega arith in
+    rw (along-beside d counts s h i k) at (two-places d counts (along d counts s i) (along-strip d counts s h i k) (omega (arith, along-left d counts s h i k)))
