@@ -1,6 +1,7 @@
 /* Looks a strip up by its number, as the archive does when a decorator rings: archive NUMBER COUNT..
  * It prints the strip with the number that the strip itself has, then the next strips of the book, each with the two
- * places whose blocks the press exchanges to come to it, and the press sheet of these moves. */
+ * places whose blocks the press exchanges to come to it, then where as many moves back lead, and the press sheet of the
+ * moves on. */
 #include <errno.h>
 #include <stdbool.h>
 #include <stdio.h>
@@ -37,7 +38,25 @@ static void print_strip(uint64_t number, const uint8_t *strip, size_t length)
     }
 }
 
-/* Prints the strips that follow, by the places that Run lists. */
+/* Goes back as the press driver does, who lends the walker, and prints the strip that so many moves lead to. */
+static bool print_back(const uint16_t *stock, size_t kinds, uint8_t *strip, size_t length, nelfrupi_walker walker,
+                       uint64_t moves)
+{
+    for (uint64_t m = 0; m < moves; m++) {
+        if (!accepted(nelfrupi_drive(stock, kinds, strip, length, &walker, true).refusal)) {
+            return false;
+        }
+    }
+    nelfrupi_numbered numbered = nelfrupi_number(stock, kinds, strip, length);
+    if (!accepted(numbered.refusal)) {
+        return false;
+    }
+    print_strip(numbered.number, strip, length);
+    printf(" by as many moves back\n");
+    return true;
+}
+
+/* Prints the strips that follow, by the places that Run lists, and where as many moves back lead. */
 static bool print_next(const uint16_t *stock, size_t kinds, const uint8_t *strip, size_t length, uint64_t number)
 {
     uint8_t shown[MOST_BLOCKS], moved[MOST_BLOCKS], list[2 * MOVES];
@@ -59,7 +78,7 @@ static bool print_next(const uint16_t *stock, size_t kinds, const uint8_t *strip
     if (ran.ended) {
         printf("the book ends here\n");
     }
-    return true;
+    return print_back(stock, kinds, moved, length, ran.walker, ran.moves);
 }
 
 /* Prints the press sheet of the moves that follow, a record a line. */
