@@ -280,10 +280,10 @@ CALLED bool step_by_dictionary(uint8_t *strip, size_t n)
 static bool is_right(const uint16_t *stock, size_t kinds, const uint8_t *strip, size_t length)
 {
     size_t n = 0, seen[17] = {0};
-    bool right = kinds >= 1 && kinds <= 16;
+    bool right = kinds >= 1 && kinds <= 16 && stock[kinds - 1] != 0;
     for (size_t j = 0; right && j < kinds; j++) {
         n += stock[j];
-        right = stock[j] != 0 && n <= 64;
+        right = n <= 64;
     }
     if (!right || length != n) {
         return false;

@@ -1,13 +1,14 @@
 /* The strip book for C: the calls of target/staticlib/libexports.a, which `rt staticlib exports` proves and builds.
  *
  * WORDS
- *   stock    how many blocks there are of each kind: 1 to 16 counts, each at least 1, their sum n at most 64.
- *            Kinds are numbered from 1: stock[0] is the count of kind 1.
+ *   stock    how many blocks there are of each kind: 1 to 16 counts, the last not 0, their sum n at most 64.
+ *            Kinds are numbered from 1: stock[0] is the count of kind 1. A kind whose count is 0 keeps its number.
  *   strip    one order of the stock: n bytes, each a kind, each kind as often as its count says.
  *            Places are numbered from 1: the block at place p is strip[p - 1].
  *   book     all strips of a stock, each once, in one fixed order. From a strip to the next, two blocks change places.
  *   number   a strip's place in its book, counted from 0. T is the number of strips in the book, so the last is T - 1.
- *   walker   the direction in which each kind moves at one strip. Each strip has one walker, which nelfrupi_open gives.
+ *   walker   the direction in which each kind moves at one strip, also of kinds whose count is 0. Each strip has one
+ *            walker, which nelfrupi_open gives.
  *   dictionary, dictionary number
  *            the same strips as in a dictionary: of two, the first place at which they differ decides, and the lower kind
  *            comes first. A strip's place there, counted from 0, is its dictionary number.
@@ -29,11 +30,12 @@
  *
  *   no  when                                                            place
  *    1  the stock has no kinds, or more than 16                         0
- *    2  a count is 0                                                    the smallest such kind
+ *    2  the last count is 0                                             that kind
  *    3  n is above 64                                                   0
  *    4  a strip, or a buffer for a strip, has not the length n          0
  *    5  a byte of a strip is no kind of the stock                       the smallest such place
- *    6  a strip has more or fewer blocks of a kind than its count       the smallest such kind
+ *    6  a strip has more or fewer blocks of a kind than its count, as   the smallest such kind
+ *       where a byte names a kind whose count is 0
  *    7  T is 2^64 or more                                               0
  *    8  the number is T or more                                         0
  *    9  no strip follows in the book, or for going back none precedes;  0
@@ -206,8 +208,8 @@ nelfrupi_ran nelfrupi_run(const uint16_t *stock, size_t kinds, uint8_t *strip, s
 /* ---- press sheets, also where T is 2^64 or more
  *
  * A sheet is a row of records, each a byte of kind and a body: 1 and sixteen bytes, the counts, with 0 for each kind
- * that the stock has not; 2 and 64 bytes, the strip, with 0 after place n; 3 and two bytes for each move on, its places,
- * smaller first; and 4, the end. With c moves it has 83 + 3c bytes. */
+ * without blocks, and after the last; 2 and 64 bytes, the strip, with 0 after place n; 3 and two bytes for each move on,
+ * its places, smaller first; and 4, the end. With c moves it has 83 + 3c bytes. */
 
 typedef struct {
     nelfrupi_refusal refusal;
@@ -228,9 +230,9 @@ typedef struct {
 /* Reading: takes exactly the sheets that writing gives, and writes the strip after the last move into the first n bytes
  * of the buffer, whose later bytes are as they were. The buffer has 64 bytes or more.
  * Refused: 4 for a buffer under 64 bytes; then record by record: 11 for a kind, an order or a body cut short; 1 (no
- * count but 0), 2 (a count of 0 before one that is not), 3 in the stock; 5, 6, then 11 for the padding, in the strip;
- * 12 in a move. A record that is missing is 11 at the sheet's length. The buffer is then as it was.
- * The places of 1, 2, 3, 5 and 6 are the table's: kinds of the stock and places of the strip that the sheet holds. Only
+ * count but 0), 3 in the stock, whose kinds run to the last count that is not 0; 5, 6, then 11 for the padding, in the
+ * strip; 12 in a move. A record that is missing is 11 at the sheet's length. The buffer is then as it was.
+ * The places of 1, 3, 5 and 6 are the table's: kinds of the stock and places of the strip that the sheet holds. Only
  * those of 11 and 12 are bytes of the sheet. */
 nelfrupi_readout nelfrupi_read_sheet(const uint8_t *sheet, size_t sheet_length, uint8_t *buffer, size_t length);
 

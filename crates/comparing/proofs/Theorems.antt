@@ -10,15 +10,15 @@ use lib.Dec.{eqb}
 use contract.Lifetimes.{Lfts}
 use borrow.Fn.Kinds.{Dens, endedOf}
 use denote.Triple.Clauses.{AtExit}
-use Rattle.rules.specs.Stock.{count, IsStock, IsStrip}
+use Rattle.rules.specs.Stock.{IsStock, IsStrip}
 use Rattle.rules.specs.Book.{book, placeIn}
 use Rattle.rules.specs.Refusals.{No, firstOf, unless, pairNos}
 use Rattle.rules.specs.Outcome.{OneAnswer}
 use Rattle.rules.proofs.Listed.{same-place}
-use Rattle.rules.proofs.Strips.{listed}
+use Rattle.rules.proofs.Strips.{strip-sum, listed}
 use Rattle.rules.proofs.Places.{place-number}
 use Rattle.rules.proofs.Refusals.{unless-refused, unless-passed}
-use Rattle.rules.proofs.Checks.{accepted-pair, accepted-pair-back}
+use Rattle.rules.proofs.Checks.{some-block, accepted-pair, accepted-pair-back}
 use Rattle.comparing.specs.declared.which.Compared.{Compared}
 use Rattle.comparing.specs.Order.{whichOf}
 use Rattle.comparing.specs.Answers.{whichAnswer, Lent, EmptyPart, secondIf, named, IsEarlier}
@@ -87,8 +87,7 @@ module _ (κs : Lfts 3) (a : Dens κs which.ps) (r : Compared) (s : AtExit (ende
 -- ---- Earlier
 
 empty-is-no-strip : (counts : List ℕ) → IsStock counts → IsStrip counts [] → ⊥
-unfolding count
-empty-is-no-strip counts stock strip = omega (arith, strip .amounts 0 (stock .some), stock .each 0 (stock .some))
+empty-is-no-strip counts stock strip = omega (arith, strip-sum counts [] strip, some-block counts stock)
 
 -- any slice r that the contract allows for a stock and two lent strips
 module _ (κs : Lfts 2) (a : Dens κs earlier.ps) (r : Lent) (s : AtExit (endedOf 2 earlier.ps earlier.r) κs) (h : earlier-reads.Post κs a r s) where

@@ -8,7 +8,7 @@ use borrow.Fn.Kinds.{Dens, endedOf}
 use denote.Triple.Clauses.{AtExit}
 use Rattle.rules.specs.Stock.{sum, total, IsStock}
 use Rattle.rules.specs.Book.{book}
-use Rattle.rules.specs.Refusals.{No, firstOf, unless, smallestFrom, stockNos, bufferNos, manyNo}
+use Rattle.rules.specs.Refusals.{No, firstOf, unless, stockNos, bufferNos, manyNo}
 use Rattle.rules.specs.Outcome.{OneAnswer, OneOutcome}
 use Rattle.rules.proofs.Refusals.{passed-both, passed-both-back, unless-refused, unless-passed, many-refused, many-passed}
 use Rattle.rules.proofs.Checks.{passed-head, accepted, accepted-back, accepted-buffer, accepted-buffer-back, numberable}
@@ -72,11 +72,11 @@ count-right κs a r s h = right (a .0 .now) r h
 
 -- the marked stocks: T of 30 31 1 is 14428278950913093728, and 31 31 1 is refused with 7
 answer-fits : countAnswer (30 ∷ 31 ∷ 1 ∷ []) ≡ record { refusal = record { no = 0; place = 0 }; total = 14428278950913093728 }
-unfolding countAnswer countNos stockNos firstOf smallestFrom sum
+unfolding countAnswer countNos stockNos firstOf sum
 answer-fits = rw (total-30-31-1)
 
 answer-many : countAnswer (31 ∷ 31 ∷ 1 ∷ []) ≡ record { refusal = record { no = 7; place = 0 }; total = 0 }
-unfolding countAnswer countNos stockNos firstOf smallestFrom sum
+unfolding countAnswer countNos stockNos firstOf sum
 answer-many = rw (many-refused (31 ∷ 31 ∷ 1 ∷ []) total-31-31-1)
 
 module _ (κs : Lfts 1) (a : Dens κs count.ps) (r : Counted) (s : AtExit (endedOf 1 count.ps count.r) κs) (h : count-reads.Post κs a r s) where

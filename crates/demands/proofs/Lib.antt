@@ -4,4 +4,5 @@ pub mod Second
 pub mod Third
 pub mod Drawers
 pub mod Pedal
+pub mod SoldOut
 pub mod Outcomes

@@ -1,6 +1,7 @@
 -- Proofs. What following a sheet comes to, by the record at the byte where it stands.
 use Prim.Native.Nat.{ℕ, suc, _+_, _-_, _≤_, _<_}
 use mathlib.Core.Path.{_≡_, ap, _∙_}
+use mathlib.Core.Bool.{Bool, true, false}
 use mathlib.Core.List.{List, [], _∷_}
 use native.Mathlib.Numerals.{add-one}
 use native.Mathlib.Omega.{arith}
@@ -12,7 +13,7 @@ use Rattle.rules.specs.Book.{same}
 use Rattle.rules.specs.Neighbours.{places}
 use Rattle.rules.specs.Refusals.{fine}
 use Rattle.walking.specs.Answers.{along, onward}
-use Rattle.following.specs.Following.{refusedAt, ended, ifNext, choice, follow, asReadout}
+use Rattle.following.specs.Following.{Followed, refusedAt, ended, ifNext, choice, byKind, follow, asReadout}
 use Rattle.following.specs.Ends.{readoutOf}
 
 -- ---- by the first byte of what is left
@@ -69,3 +70,30 @@ module _ (i at : ℕ) (sheet : List ℕ) where
 
   pub end-last : length sheet ≤ at + 1 → asReadout fine i ≡ readoutOf i (ended [] at (drop (at + 1) sheet))
   end-last h = rw (drop-of-length-le sheet h) (ap (asReadout fine) (omega arith))
+
+-- ---- the number of its refusal: none, 11 or 12
+
+module _ (P : ℕ → Type 0) (none : P 0) (eleven : P 11) (twelve : P 12) where
+  choice-is : (b : Bool) (f g : Followed) → P (f .no .0) → P (g .no .0) → P (choice b f g .no .0)
+  choice-is true f g p q = p
+  choice-is false f g p q = q
+
+  next-is : (b : Bool) (at : ℕ) (f : Followed) → P (f .no .0) → P (ifNext b at f .no .0)
+  next-is true at f p = p
+  next-is false at f p = twelve
+
+  ended-is : (s : List ℕ) (at : ℕ) (rest : List ℕ) → P (ended s at rest .no .0)
+  ended-is s at [] = none
+  ended-is s at (x ∷ rest) = eleven
+
+  kind-is : (kind at : ℕ) (move : Followed) (s rest : List ℕ) → P (move .no .0) → P (byKind kind at move (ended s at rest) .no .0)
+  kind-is kind at move s rest p = choice-is (eqb kind 3) move _ p (choice-is (eqb kind 4) (ended s at rest) _ (ended-is s at rest) eleven)
+
+  pub follow-is : (counts s : List ℕ) (at : ℕ) (rest : List ℕ) → P (follow counts s at rest .no .0)
+  unfolding follow
+  follow-is counts s at [] = eleven
+  follow-is counts s at (kind ∷ []) = kind-is kind at _ s [] eleven
+  follow-is counts s at (kind ∷ p ∷ []) = kind-is kind at _ s (p ∷ []) eleven
+  follow-is counts s at (kind ∷ p ∷ q ∷ rest) =
+      let t = onward counts s 1 in
+      kind-is kind at _ s (p ∷ q ∷ rest) (next-is (same (places s t) (p ∷ q ∷ [])) at _ (follow-is counts t (at + 3) rest))

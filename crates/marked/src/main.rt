@@ -42,7 +42,9 @@ fn single_kinds() {
     lines::of_run(&[64], &mut [1; 64], false, &mut [0; 8]);
     lines::of_run(&[64], &mut [1; 64], true, &mut [0; 8]);
     lines::of_count(&[65]);
+    lines::of_count(&[0]);
     lines::of_count(&[0, 70]);
+    lines::of_count(&[70, 0]);
 }
 
 // A book with nearly 2^64 strips.
@@ -67,16 +69,25 @@ fn of_1223(stock: &[u16]) {
     lines::of_number(stock, &[1, 2, 2, 3]);
 }
 
-// Number with each refusal from 1 to 6: 0 70 has 2 and 3, and 12430 has 5 and 6.
+// A strip of counts 1 0 2, whose kind 2 has no blocks.
+fn of_1_0_2(blocks: [u8; 3]) {
+    lines::of_number(&[1, 0, 2], &blocks);
+}
+
+// Number with each refusal from 1 to 6: 70 0 has 2 and 3, and 12430 has 5 and 6. A byte that names a kind without blocks is 6.
 fn refused() {
     of_1223(&[]);
     of_1223(&[1; 17]);
-    of_1223(&[2, 0, 1]);
+    of_1223(&[2, 1, 0]);
+    of_1223(&[70, 0]);
     of_1223(&[0, 70]);
     of_1223(&[65]);
     of_1223(&[1, 2, 2]);
     of_1_2_2([1, 2, 4, 3, 0]);
     of_1_2_2([1, 2, 3, 3, 3]);
+    of_1_0_2([3, 1, 3]);
+    of_1_0_2([3, 2, 3]);
+    of_1_0_2([1, 2, 3]);
 }
 
 // The end of a dictionary with nearly 2^64 strips, and the number behind it.
@@ -98,7 +109,7 @@ fn longer_dictionary(stock: &[u16], blocks: &mut [u8]) {
 fn dictionaries() {
     long_dictionary(&[30, 31, 1], &mut [0; 62]);
     longer_dictionary(&[31, 31, 1], &mut [0; 63]);
-    filed::of_to_book(&[0, 70], 0);
+    filed::of_to_book(&[70, 0], 0);
     filed::of_next(&[64], &mut [1; 64]);
 }
 

@@ -10,7 +10,7 @@ use borrow.Fn.Kinds.{Dens, endedOf}
 use denote.Triple.Clauses.{AtExit}
 use Rattle.rules.specs.Stock.{sum, product, total, IsStock}
 use Rattle.rules.specs.Book.{book, odd}
-use Rattle.rules.specs.Refusals.{firstOf, smallestFrom, stockNos}
+use Rattle.rules.specs.Refusals.{firstOf, stockNos}
 use Rattle.rules.proofs.Checks.{accepted}
 use Rattle.rules.proofs.Strips.{total-one}
 use Rattle.rules.proofs.Numbers.{odd-rest}
@@ -45,7 +45,7 @@ unfolding lastTo
 marked-last = rw total-30-31-1 at (last-strip marked) ∙ rw (odd-none, odd-one, even-two)
 
 marked-stock : IsStock marked
-unfolding stockNos firstOf smallestFrom sum
+unfolding stockNos firstOf sum
 marked-stock = accepted marked refl
 
 -- whatever Strip answers for the last number and a buffer of 62 bytes

@@ -9,10 +9,9 @@ use native.Mathlib.Nat.{zero-add}
 use native.Mathlib.Omega.{arith}
 use lib.ListN.{length, getD, take, replicate, length-append}
 use lib.Seq.{take-append-seam}
-use Rattle.rules.specs.Stock.{sum}
-use Rattle.rules.specs.Refusals.{firstOf, smallest, isZero, stockNos}
+use Rattle.rules.specs.Stock.{sum, lastCount}
+use Rattle.rules.specs.Refusals.{firstOf, stockNos}
 use Rattle.rules.proofs.Refusals.{unless-refused, unless-passed}
-use Rattle.rules.proofs.Smallest.{smallest-is}
 use Rattle.rules.proofs.Checks.{stock-empty, stock-over, stock-zero, stock-long, stock-fine, accepted}
 use Rattle.rules.proofs.Prefixes.{total-some}
 use Rattle.stock.specs.declared.Refusal.{Refusal}
@@ -47,13 +46,11 @@ refused-place counts = elim (ℕ-discrete (length counts) 0) [
   | yes e ↦ rw (← stock-empty counts e) (omega arith)
   | no e ↦ elim (decLt 16 (length counts)) [
     | yes l ↦ rw (← stock-over counts l) (omega arith)
-    | no l ↦ elim (ℕ-discrete (smallest isZero counts) 0) [
-      | no z ↦
-          let a = smallest-is isZero 1 counts (smallest isZero counts - 1) (omega arith) in
-          rw (← stock-zero counts e (omega arith) (smallest isZero counts) refl z) (omega (arith, a .inside, a .place))
-      | yes z ↦ elim (decLt 64 (sum counts)) [
-        | yes n ↦ rw (← stock-long counts e (omega arith) (smallest isZero counts) refl z n) (omega arith)
-        | no n ↦ rw (← stock-fine counts e (omega arith) (smallest isZero counts) refl z (omega arith)) (omega arith)
+    | no l ↦ elim (ℕ-discrete (lastCount counts) 0) [
+      | yes z ↦ rw (← stock-zero counts e (omega arith) z) (omega arith)
+      | no z ↦ elim (decLt 64 (sum counts)) [
+        | yes n ↦ rw (← stock-long counts e (omega arith) z n) (omega arith)
+        | no n ↦ rw (← stock-fine counts e (omega arith) z (omega arith)) (omega arith)
       ]
     ]
   ]

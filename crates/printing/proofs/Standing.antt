@@ -2,7 +2,7 @@
 use Prim.Native.Nat.{ℕ, _+_, _-_, _≤_, _<_}
 use mathlib.Core.Path.{_≡_, refl, sym, ap, _∙_}
 use mathlib.Core.Logic.{_⊎_, inl, inr}
-use mathlib.Core.List.{List, [], _∷_, _++_}
+use mathlib.Core.List.{List, [], _++_}
 use native.Mathlib.Decide.{decLt}
 use native.Mathlib.Nat.{add-zero}
 use native.Mathlib.Omega.{arith}
@@ -11,6 +11,7 @@ use lib.ListN.{length, getD, take, drop, replicate, length-append, drop-of-lengt
 use lib.Seq.{take-append-seam, drop-append-seam, getD-drop, drop-drop}
 use Rattle.rules.specs.Stock.{sum, total, IsStock, IsStrip}
 use Rattle.rules.specs.Book.{book}
+use Rattle.rules.proofs.Checks.{some-block}
 use Rattle.rules.proofs.Strips.{strip-sum}
 use Rattle.rules.proofs.Places.{book-only}
 use Rattle.walker.specs.declared.Walker.{Walker}
@@ -29,11 +30,6 @@ pub shown-is : (counts t zs : List ℕ) (n i : ℕ) (w : Walker) → t ≡ getD 
 unfolding shownAt
 shown-is counts t zs n i w e f g h = rw (h, g, f, e)
 
-some-blocks : (counts : List ℕ) → IsStock counts → 1 ≤ sum counts
-unfolding sum
-some-blocks [] k = absurd (omega (arith, k .some))
-some-blocks (c ∷ cs) k = omega (arith, k .each 0 (omega arith))
-
 module _ (counts : List ℕ) (k : IsStock counts) (i : ℕ) (l : i < total counts) where
   abbrev s : List ℕ
   s = getD (book counts) i []
@@ -45,7 +41,7 @@ module _ (counts : List ℕ) (k : IsStock counts) (i : ℕ) (l : i < total count
   size = strip-sum counts s own
 
   some : 0 < length s
-  some = omega (arith, size, some-blocks counts k)
+  some = omega (arith, size, some-block counts k)
 
   two-digits : (j : ℕ) → j < length s → getD s j 0 < 100
   two-digits j h = omega (arith, own .kinds j h .1, k .few)

@@ -13,7 +13,7 @@ use lib.ListN.{length, getD, drop, replicate, length-append}
 use lib.Seq.{take-append-seam}
 use Rattle.rules.specs.Stock.{sum}
 use Rattle.rules.specs.Book.{after as after-words, E, lay, turn, snake, bookTo, book}
-use Rattle.rules.specs.Refusals.{firstOf, smallestFrom, stockNos}
+use Rattle.rules.specs.Refusals.{firstOf, stockNos}
 use Rattle.rules.specs.Outcome.{OneOutcome}
 use Rattle.rules.proofs.Refusals.{unless-refused, unless-passed}
 use Rattle.rules.proofs.Checks.{accepted}
@@ -58,13 +58,23 @@ output-unreadable input n = ap linesOf (nothing-read input n (readCounts input) 
 -- of `2 1`, the lines `0 1-1-2`, `1 1-2-1` and `2 2-1-1`
 pub output-2-1 : output (50 ∷ 32 ∷ 49 ∷ 10 ∷ []) ≡
     (48 ∷ 32 ∷ 49 ∷ 45 ∷ 49 ∷ 45 ∷ 50 ∷ 10 ∷ []) ∷ (49 ∷ 32 ∷ 49 ∷ 45 ∷ 50 ∷ 45 ∷ 49 ∷ 10 ∷ []) ∷ (50 ∷ 32 ∷ 50 ∷ 45 ∷ 49 ∷ 45 ∷ 49 ∷ 10 ∷ []) ∷ []
-unfolding output stockLines stripLines linesFrom readCounts readFrom stripLine decimal digits joined preceded firstOf stockNos smallestFrom sum book bookTo snake turn lay E after-words
+unfolding output stockLines stripLines linesFrom readCounts readFrom stripLine decimal digits joined preceded firstOf stockNos sum book bookTo snake turn lay E after-words
 output-2-1 = refl
 
--- of `0 70`, the line `refused 2 1`
-pub output-0-70 : output (48 ∷ 32 ∷ 55 ∷ 48 ∷ 10 ∷ []) ≡ (114 ∷ 101 ∷ 102 ∷ 117 ∷ 115 ∷ 101 ∷ 100 ∷ 32 ∷ 50 ∷ 32 ∷ 49 ∷ 10 ∷ []) ∷ []
-unfolding output stockLines readCounts readFrom refusedLine decimal digits joined preceded firstOf stockNos smallestFrom sum
+-- of `1 0 1`, the lines `0 1-3` and `1 3-1`
+pub output-1-0-1 : output (49 ∷ 32 ∷ 48 ∷ 32 ∷ 49 ∷ 10 ∷ []) ≡ (48 ∷ 32 ∷ 49 ∷ 45 ∷ 51 ∷ 10 ∷ []) ∷ (49 ∷ 32 ∷ 51 ∷ 45 ∷ 49 ∷ 10 ∷ []) ∷ []
+unfolding output stockLines stripLines linesFrom readCounts readFrom stripLine decimal digits joined preceded firstOf stockNos sum book bookTo snake turn lay E after-words
+output-1-0-1 = refl
+
+-- of `0 70`, the line `refused 3 0`
+pub output-0-70 : output (48 ∷ 32 ∷ 55 ∷ 48 ∷ 10 ∷ []) ≡ (114 ∷ 101 ∷ 102 ∷ 117 ∷ 115 ∷ 101 ∷ 100 ∷ 32 ∷ 51 ∷ 32 ∷ 48 ∷ 10 ∷ []) ∷ []
+unfolding output stockLines readCounts readFrom refusedLine decimal digits joined preceded firstOf stockNos sum
 output-0-70 = refl
+
+-- of `70 0`, the line `refused 2 2`
+pub output-70-0 : output (55 ∷ 48 ∷ 32 ∷ 48 ∷ 10 ∷ []) ≡ (114 ∷ 101 ∷ 102 ∷ 117 ∷ 115 ∷ 101 ∷ 100 ∷ 32 ∷ 50 ∷ 32 ∷ 50 ∷ 10 ∷ []) ∷ []
+unfolding output stockLines readCounts readFrom refusedLine decimal digits joined preceded firstOf stockNos sum
+output-70-0 = refl
 
 -- ---- the lines that are left
 

@@ -52,7 +52,7 @@ module _ (counts s : List ℕ) (k : IsStock counts) (h : IsStrip counts s) (c : 
 
   pub stock-back : sheetStock (sheetOf counts s c) ≡ counts
   unfolding sheetStock
-  stock-back = rw (sheet-shaped counts s c, first-body a b m la lb) (used-padded 16 counts (k .each))
+  stock-back = rw (sheet-shaped counts s c, first-body a b m la lb) (used-padded 16 counts (k .last))
 
   body-back : stripBody (sheetOf counts s c) ≡ b
   unfolding stripBody

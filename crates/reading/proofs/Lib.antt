@@ -5,4 +5,5 @@ mod Padding
 mod Shape
 mod MoveRecords
 mod Exactly
+mod SoldOut
 pub mod Theorems

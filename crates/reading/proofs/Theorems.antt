@@ -1,22 +1,23 @@
 -- Theorems on reading a sheet, over its contract as the function states it: `Post` says which answers it allows for which input, and what it leaves in the buffer.
-use Prim.Native.Nat.{ℕ, _≤_}
+use Prim.Native.Nat.{ℕ, suc, _≤_, _<_}
 use mathlib.Core.Path.{_≡_, sym, ap, _∙_}
-use mathlib.Core.List.{List, _++_}
-use lib.ListN.{length, drop}
+use mathlib.Core.List.{List, _∷_, _++_}
+use lib.ListN.{length, getD, take, drop, replicate}
 use contract.Lifetimes.{Lfts}
 use borrow.Fn.Kinds.{Dens, endedOf}
 use denote.Triple.Clauses.{AtExit}
 use Rattle.rules.specs.Stock.{sum, IsStock, IsStrip}
-use Rattle.rules.specs.Refusals.{fine, firstOf}
+use Rattle.rules.specs.Refusals.{fine, firstOf, smallest, isStranger}
 use Rattle.rules.specs.Outcome.{OneAnswer}
 use Rattle.rules.proofs.Refusals.{unless-refused, unless-passed}
 use Rattle.walking.specs.Answers.{onward, left}
 use Rattle.sheets.specs.Sheets.{sheetOf}
-use Rattle.records.specs.Records.{sheetStock, sheetStrip}
+use Rattle.records.specs.Records.{sheetStock, sheetStrip, recordNo}
 use Rattle.following.specs.declared.Readout.{Readout}
 use Rattle.following.specs.Following.{Followed, asReadout}
 use Rattle.reading.specs.Reading.{followed, readNos, readAnswer, readBuffer}
 use Rattle.reading.proofs.Exactly.{stock-back, strip-back, followed-back, none-back, read-room, read-stock, read-strip, read-moves, read-is}
+use Rattle.reading.proofs.SoldOut.{two-never, zeros-are-one, sold-out-read}
 use Rattle.reading.proofs.reader.read_sheet.Kinds as reading
 use Rattle.reading.proofs.reader.read_sheet.Reads as reads
 
@@ -81,3 +82,21 @@ module _ (κs : Lfts 2) (a : Dens κs reading.ps) (r : Readout) (t : AtExit (end
   refused-stays e =
       let k : firstOf (readNos sheet buffer) .0 ≡ 0 → ⊥ = λ z. e (no-is ∙ z) in
       (ap (λ (r : Readout). r .moves) (h .0) ∙ unless-refused 0 _ _ k, h .1 ∙ unless-refused buffer _ _ k)
+
+  -- ---- counts of 0 (P3)
+
+  -- 2 is never met in a sheet: its kinds run to the last count that is not 0
+  pub never-two : r .refusal .no ≡ 2 → ⊥
+  never-two e = two-never sheet buffer (sym no-is ∙ e)
+
+  -- and where all sixteen are 0, it is refused by 1, place 0
+  pub sixteen-zeros : 64 ≤ length buffer → take 17 sheet ≡ 1 ∷ replicate 16 0 → r ≡ asReadout (1, 0) 0
+  unfolding readAnswer
+  sixteen-zeros room z = h .0 ∙ rw (zeros-are-one sheet buffer room z)
+
+  -- a byte of the strip that names a kind without blocks meets 6, where no row before 6 refuses
+  pub sold-out-byte : 64 ≤ length buffer → recordNo 1 16 0 sheet .0 ≡ 0 → IsStock (sheetStock sheet) → recordNo 2 64 17 sheet .0 ≡ 0
+      → smallest (isStranger (sheetStock sheet)) (sheetStrip sheet) ≡ 0
+      → (i j : ℕ) → i < length (sheetStrip sheet) → getD (sheetStrip sheet) i 0 ≡ suc j → j < length (sheetStock sheet) → getD (sheetStock sheet) j 0 ≡ 0
+      → r .refusal .no ≡ 6
+  sold-out-byte room first stock second own i j inside names kind none = no-is ∙ sold-out-read sheet buffer room first stock second own i j inside names kind none

@@ -13,7 +13,8 @@ use Rattle.following.specs.Following.{Followed, follow, asReadout}
 unfoldable pub followed : List ℕ → Followed
 followed sheet = follow (sheetStock sheet) (sheetStrip sheet) 82 (drop 82 sheet)
 
--- ---- reading: 4; then record by record 11, then 1, 2, 3 in a stock; 11, then 5, 6, then padding in a strip; then the moves and the end
+-- ---- reading: 4; then record by record 11, then 1, 2, 3 in a stock, of which 2 is never met (`never-two`, proved); 11, then 5, 6, then padding in a strip;
+-- then the moves and the end
 
 unfoldable pub readNos : List ℕ → List ℕ → List No
 readNos sheet buffer =

@@ -1,8 +1,8 @@
--- Proofs. Laying by a word that is found from its last letter to its first, as `unrank` finds it.
+-- Proofs. Laying by a word that is found from its last letter to its first, as `unrank` finds it; by a word of R alone; and with the kinds renamed.
 use Prim.Native.Nat.{ℕ, suc, pred, _-_, _≤_, _<_}
 use mathlib.Core.Path.{_≡_, refl, ap, _∙_}
 use mathlib.Core.Bool.{Bool, false, not}
-use mathlib.Core.List.{List, [], _∷_, _++_, reverse, reverse-cons, append-nil}
+use mathlib.Core.List.{List, [], _∷_, _++_, map, reverse, reverse-cons, append-nil}
 use native.Mathlib.Omega.{arith}
 use borrow.Author.Tests.{lt-ltb, le-ltb}
 use lib.ListN.{length}
@@ -44,3 +44,10 @@ lay-all-R j (x ∷ w) [] h e = absurd (omega arith)
 lay-all-R j w (K ∷ p) h e = absurd (omega (arith, count-both p))
 lay-all-R j [] (R ∷ p) h e = absurd (omega arith)
 lay-all-R j (x ∷ w) (R ∷ p) h e = ap (λ (s : List ℕ). x ∷ s) (lay-all-R j w p (omega arith) (omega arith))
+
+pub lay-map : (f : ℕ → ℕ) (j : ℕ) (w : List ℕ) (p : Word) → lay (f j) (map f w) p ≡ map f (lay j w p)
+unfolding lay
+lay-map f j w [] = refl
+lay-map f j w (K ∷ p) = ap (λ (s : List ℕ). f j ∷ s) (lay-map f j w p)
+lay-map f j [] (R ∷ p) = refl
+lay-map f j (x ∷ w) (R ∷ p) = ap (λ (s : List ℕ). f x ∷ s) (lay-map f j w p)

@@ -6,9 +6,8 @@ use native.Mathlib.Numerals.{one-add}
 use native.Mathlib.Nat.{sub-zero, zero-sub, suc-sub-suc}
 use native.Mathlib.Omega.{arith}
 use borrow.Rule.Slice.PartMut.{putMid}
-use lib.ListN.{length, getD, take, drop, set, replicate, length-append, length-replicate}
+use lib.ListN.{length, take, drop, set, replicate, length-append, length-replicate}
 use lib.Seq.{take-at}
-use Rattle.rules.specs.Stock.{sum}
 use Rattle.sheets.specs.Sheets.{padded}
 use Rattle.sheets.proofs.Rest.{restOf, more}
 
@@ -55,10 +54,3 @@ padded-front n l body e = rw e (take-at l (replicate (n - length l) 0) (length l
 pub padded-record : (n kind : ℕ) (l body rest put : List ℕ) → length l ≤ n → body ≡ padded n l → put ≡ (kind ∷ body) ++ drop (suc (length body)) rest
     → put ≡ (kind ∷ padded n l) ++ drop (suc n) rest
 padded-record n kind l body rest put h b e = e ∙ rw (b, padded-long n l h)
-
--- a count of a stock is no more than the sum
-pub count-below : (counts : List ℕ) (i : ℕ) → getD counts i 0 ≤ sum counts
-unfolding sum
-count-below [] i = omega arith
-count-below (c ∷ counts) zero = omega arith
-count-below (c ∷ counts) (suc i) = omega (arith, count-below counts i)

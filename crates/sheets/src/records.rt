@@ -27,7 +27,7 @@ fn put_record(rest: &mut [u8], kind: u8, body: &[u8])
     put_bytes(&mut rest[1..], body);
 }
 
-// The stock: 16 bytes of counts, zero for unused kinds.
+// The stock: 16 bytes of counts, zero after its last kind.
 pub fn put_stock(rest: &mut [u8], stock: &[u16])
     requires { ⌜ IsStock (now stock) × (17 ≤ length (now rest)) ⌝ }
     ensures { λ _. ⌜ now (rest .exit) ≡ stockRecord (now (stock .entry)) ++ drop 17 (now (rest .entry)) ⌝ }

@@ -3,23 +3,8 @@ use super::Refusal;
 ghost use Prim.Native.Nat.{min};
 ghost use mathlib.Core.Path.{_≡_};
 ghost use Rattle.rules.specs.Stock.{sum};
-ghost use Rattle.rules.specs.Refusals.{firstOf, smallest, isZero, stockNos, bufferNos};
+ghost use Rattle.rules.specs.Refusals.{firstOf, stockNos, bufferNos};
 ghost use Rattle.stock.specs.Refused.{refusal};
-
-// The smallest kind whose count is 0; 0 where there is none.
-fn zero_kind(stock: &[u16]) -> u64
-    ensures { λ r. ⌜ r ≡ smallest isZero (now (stock .entry)) ⌝ }
-{
-    let mut i = 0;
-    while i < stock.len() {
-        let amount = stock[i];
-        i += 1;
-        if amount == 0 {
-            return i as u64;
-        }
-    }
-    0
-}
 
 // The sum of the counts, or 65 where it is more.
 pub fn blocks(stock: &[u16]) -> usize
@@ -48,10 +33,13 @@ pub fn check_stock(stock: &[u16]) -> Refusal
     if 16 < kinds {
         return Refusal { no: 1, place: 0 };
     }
-    let zero = zero_kind(stock);
+    let last = stock[kinds - 1];
     let n = blocks(stock);
-    if zero != 0 {
-        return Refusal { no: 2, place: zero };
+    if last == 0 {
+        return Refusal {
+            no: 2,
+            place: kinds as u64,
+        };
     }
     if 64 < n {
         return Refusal { no: 3, place: 0 };

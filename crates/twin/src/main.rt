@@ -1,6 +1,7 @@
-// Builds whole books by the rule of document 01 itself, for every stock of up to 7 blocks, and compares them number by number with what the
-// calls answer. Words and strips are listed one after the other: nothing is ranked, and no strip is moved to get the next one. The dictionary of a
-// stock is its book, sorted by comparing strips block by block.
+// Builds whole books by the rule of document 01 itself, for every stock of up to 7 blocks in which each kind has blocks, and for those of up to 4
+// blocks also with a kind without blocks before some of the kinds, and compares them number by number with what the calls answer. Words and strips are
+// listed one after the other: nothing is ranked, and no strip is moved to get the next one. The dictionary of a stock is its book, sorted by comparing
+// strips block by block.
 mod books;
 mod compare;
 mod dictionary;
@@ -53,15 +54,50 @@ fn compare_stock(lists: &Lists, tally: &mut Tally, n: usize, counts: [u16; 8], k
     compare_on(tally, stock, &shelf, book, n);
 }
 
+// The stock of n blocks with these cuts and gaps.
+fn compare_cut(lists: &Lists, tally: &mut Tally, n: usize, cuts: u8, gaps: u8)
+    requires { ⌜ n ≤ 8 ⌝ }
+{
+    let stock = cut(n, cuts, gaps);
+    let counts = stock.counts;
+    compare_stock(lists, tally, n, counts, stock.kinds);
+}
+
+// Whether a kind begins at each of these blocks: at block 0, or behind a cut, of which there is none behind the last of eight blocks.
+fn are_starts(gaps: u8, cuts: u8) -> bool {
+    if 128 <= cuts {
+        return false;
+    }
+    let starts = 2 * cuts + 1;
+    gaps & starts == gaps
+}
+
+// The stock of n blocks with these cuts; with up to 4 blocks also with a kind without blocks before some of its kinds, or before each.
+fn compare_gaps(lists: &Lists, tally: &mut Tally, n: usize, cuts: u8)
+    requires { ⌜ n ≤ 8 ⌝ }
+{
+    compare_cut(lists, tally, n, cuts, 0);
+    if 4 < n {
+        return;
+    }
+    let ways = bit(n);
+    let mut gaps: u8 = 1;
+    while gaps < ways {
+        let now = gaps;
+        gaps += 1;
+        if are_starts(now, cuts) {
+            compare_cut(lists, tally, n, cuts, now);
+        }
+    }
+}
+
 // Every stock of n blocks: n - 1 places where the blocks are cut or not.
 fn compare_stocks(lists: &Lists, tally: &mut Tally, n: usize, ways: u8)
     requires { ⌜ n ≤ 8 ⌝ }
 {
     let mut cuts: u8 = 0;
     while cuts < ways {
-        let stock = cut(n, cuts);
-        let counts = stock.counts;
-        compare_stock(lists, tally, n, counts, stock.kinds);
+        compare_gaps(lists, tally, n, cuts);
         cuts += 1;
     }
 }

@@ -7,7 +7,7 @@ use native.Mathlib.Decide.{ℕ-discrete}
 use native.Mathlib.Numerals.{add-one}
 use native.Mathlib.Omega.{arith}
 use borrow.Author.Tests.{not-true, not-false}
-use lib.ListN.{length, getD, drop, drop-of-length-le}
+use lib.ListN.{length, getD, drop, set, drop-of-length-le}
 use lib.Seq.{drop-cons}
 use Rattle.rules.specs.Stock.{IsStock, IsStrip}
 use Rattle.rules.specs.Refusals.{No, fine, atPlace, firstOf, checkNos}
@@ -103,6 +103,24 @@ accepted-walker counts s w l h =
 pub accepted-walker-back : (counts s : List ℕ) (w : Walker) → IsStock counts → IsStrip counts s → w ≡ walkerOf counts s → firstOf (walkerNos counts s w) ≡ fine
 unfolding firstOf
 accepted-walker-back counts s w k h v = passed-first (checkNos counts s) (walkerNo counts s w ∷ []) (accepted-both-back counts s k h) ∙ rw (v, walker-accepted counts s)
+
+-- one wrong direction, whatever the kind: 10 at that kind
+differ-one : (p : ℕ) (d : List Bool) (j : ℕ) → j < length d → differingFrom p (set d j (not (getD d j false))) d ≡ p + j
+unfolding differingFrom
+differ-one p [] j h = absurd (omega arith)
+differ-one p (false ∷ d) zero h = omega arith
+differ-one p (true ∷ d) zero h = omega arith
+differ-one p (false ∷ d) (suc j) h = differ-one (suc p) d j (omega arith) ∙ omega arith
+differ-one p (true ∷ d) (suc j) h = differ-one (suc p) d j (omega arith) ∙ omega arith
+
+pub one-wrong : (counts s : List ℕ) (j : ℕ) → IsStock counts → IsStrip counts s → j < 16
+    → let d = walkerOf counts s .back in firstOf (walkerNos counts s (record { back = set d j (not (getD d j false)) })) ≡ (10, suc j)
+unfolding walkerNo
+one-wrong counts s j k h l =
+    let d = walkerOf counts s .back in
+    let long : length d ≡ 16 = rw (walker-to counts s) (to-long counts s (length counts)) in
+    let e : differingFrom 1 (set d j (not (getD d j false))) d ≡ suc j = differ-one 1 d j (omega arith) ∙ omega arith in
+    passed-first (checkNos counts s) _ (accepted-both-back counts s k h) ∙ at-place 9 [] _ (λ z. omega (arith, e, z)) ∙ ap (λ (p : ℕ). (10, p)) e
 
 -- none of 1 to 6 and 10 is 9
 ten : (p : ℕ) → firstOf (atPlace 10 p ∷ []) .0 ≡ 9 → ⊥

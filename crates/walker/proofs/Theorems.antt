@@ -1,16 +1,16 @@
 -- Theorems on Open, over its contract as the function states it: `Post` says which answers it allows for which input.
 use Prim.Native.Nat.{ℕ, suc, _≤_, _<_}
-use mathlib.Core.Path.{_≡_, sym, ap, _∙_}
-use mathlib.Core.Bool.{false}
-use mathlib.Core.List.{List}
+use mathlib.Core.Path.{_≡_, refl, sym, ap, _∙_}
+use mathlib.Core.Bool.{true, false}
+use mathlib.Core.List.{List, [], _∷_}
 use native.Mathlib.Omega.{arith}
 use borrow.Author.Tests.{le-leb, lt-leb}
-use lib.ListN.{length, getD}
+use lib.ListN.{length, getD, replicate}
 use contract.Lifetimes.{Lfts}
 use borrow.Fn.Kinds.{Dens, endedOf}
 use denote.Triple.Clauses.{AtExit}
 use Rattle.rules.specs.Stock.{IsStock, IsStrip}
-use Rattle.rules.specs.Book.{backward}
+use Rattle.rules.specs.Book.{book, same, placeIn, odd, reduced, backward}
 use Rattle.rules.specs.Refusals.{firstOf, unless, checkNos}
 use Rattle.rules.specs.Outcome.{OneAnswer}
 use Rattle.rules.proofs.Refusals.{unless-refused, unless-passed}
@@ -27,6 +27,11 @@ use Rattle.walker.proofs.open.open.Reads as reads
 -- two answers that the contract allows for one input are the same
 pub one-outcome : OneAnswer 2 opening.ps opening.r reads.Post
 one-outcome κs a x y s t h k = h ∙ sym k
+
+-- a kind without blocks runs by parity as the others do: in 421 of 1 1 0 1, kinds 3 and 4 run backward
+pub open-1-1-0-1 : walkerOf (1 ∷ 1 ∷ 0 ∷ 1 ∷ []) (4 ∷ 2 ∷ 1 ∷ []) .back ≡ false ∷ false ∷ true ∷ true ∷ replicate 12 false
+unfolding walkerOf backward odd placeIn book same reduced
+open-1-1-0-1 = refl
 
 -- any answer r that the contract allows for a stock and a strip
 module _ (κs : Lfts 2) (a : Dens κs opening.ps) (r : Opened) (s : AtExit (endedOf 2 opening.ps opening.r) κs) (h : reads.Post κs a r s) where
@@ -55,7 +60,7 @@ module _ (κs : Lfts 2) (a : Dens κs opening.ps) (r : Opened) (s : AtExit (ende
   pub refused-forward : (r .refusal .no ≡ 0 → ⊥) → r .walker ≡ allForward
   refused-forward e = walker-is ∙ unless-refused allForward _ (firstOf (checkNos counts strip)) (λ k. e (no-is ∙ k))
 
-  -- an accepted one has the direction of each kind, kind 1 and unused kinds forward
+  -- an accepted one has the direction of each kind, with blocks or without; kind 1 and kinds that the stock has not run forward
   module _ (e : r .refusal .no ≡ 0) where
     at : (i : ℕ) → i < 16 → getD (r .walker .back) i false ≡ getD (walkerOf counts strip .back) i false
     at i l = ap (λ (w : Walker). getD (w .back) i false) (walker-is ∙ unless-passed allForward _ (firstOf (checkNos counts strip)) (sym no-is ∙ e))

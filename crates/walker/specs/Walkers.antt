@@ -11,7 +11,8 @@ use Rattle.walker.specs.declared.Walker.{Walker}
 abbrev pub kinds : List ℕ
 kinds = 1 ∷ 2 ∷ 3 ∷ 4 ∷ 5 ∷ 6 ∷ 7 ∷ 8 ∷ 9 ∷ 10 ∷ 11 ∷ 12 ∷ 13 ∷ 14 ∷ 15 ∷ 16 ∷ []
 
--- the direction of each of sixteen kinds in a strip, true for backward: unused kinds forward, and so is kind 1 (`kind-one-forward`, proved)
+-- the direction of each of sixteen kinds in a strip, true for backward: kinds that the stock has not run forward, and so does kind 1 (`kind-one-forward`,
+-- proved). A kind without blocks has a direction as the others have
 unfoldable pub directions : List ℕ → List ℕ → List Bool
 directions counts s = map (λ j. leb j (length counts) && backward counts j s) kinds
 

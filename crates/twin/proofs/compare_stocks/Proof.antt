@@ -18,7 +18,6 @@ compare-stocks-spec =
     μ-loop
     (λ c. tt)
     (λ c κs. omega arith)
-    (λ c κs. omega arith)
     (λ c. omega arith)
     (λ c. omega arith)
     (λ c. tt)

@@ -4,9 +4,10 @@ use mathlib.Core.Path.{sym, _∙_}
 use native.Mathlib.Omega.{arith}
 use borrow.Author.Needs.{needs}
 use lib.ListN.{length}
+use Rattle.rules.proofs.Prefixes.{count-below}
 use Rattle.sheets.specs.Sheets.{stockRecord}
 use Rattle.sheets.proofs.Copying.{Copying, start, on, end}
-use Rattle.sheets.proofs.Bodies.{padded-is, padded-record, count-below}
+use Rattle.sheets.proofs.Bodies.{padded-is, padded-record}
 use Rattle.sheets.proofs.records.put_stock.Statement.{statement}
 use Rattle.sheets.proofs.records.put_stock.Tie as tie
 

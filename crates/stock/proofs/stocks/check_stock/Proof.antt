@@ -14,13 +14,13 @@ returns-2 : tie.Need-returns-2
 returns-2 c = ap refusal (stock-over _ (omega arith))
 
 returns-3 : tie.Need-returns-3
-returns-3 c = ap refusal (stock-zero _ (omega arith) (omega arith) _ (c .before .before .zero-kind .ensures) (omega arith))
+returns-3 c = ap refusal (stock-zero _ (omega arith) (omega arith) (omega arith))
 
 returns-4 : tie.Need-returns-4
-returns-4 c = ap refusal (stock-long _ (omega arith) (omega arith) _ (c .before .before .before .zero-kind .ensures) (omega arith) (omega arith))
+returns-4 c = ap refusal (stock-long _ (omega arith) (omega arith) (omega arith) (omega arith))
 
 returns-5 : tie.Need-returns-5
-returns-5 c = ap refusal (stock-fine _ (omega arith) (omega arith) _ (c .before .before .before .zero-kind .ensures) (omega arith) (omega arith))
+returns-5 c = ap refusal (stock-fine _ (omega arith) (omega arith) (omega arith) (omega arith))
 
 pub check-stock-spec : {M : Type 1} → statement M
-check-stock-spec = tie.close (tie.spec returns returns-2 (λ c κs. search needs) (λ c κs. search needs) returns-3 returns-4 returns-5)
+check-stock-spec = tie.close (tie.spec returns returns-2 (λ c. omega arith) (λ c. search needs) (λ c. omega arith) (λ c κs. search needs) returns-3 returns-4 returns-5)

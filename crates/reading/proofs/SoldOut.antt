@@ -1,0 +1,94 @@
+-- Proofs. A sheet whose stock has counts of 0: 2 is never met, sixteen zeros are 1, and a byte of the strip that names a kind without blocks is 6.
+use Prim.Native.Nat.{ℕ, suc, _+_, _≤_, _<_}
+use mathlib.Core.Path.{_≡_, refl, ap, _∙_}
+use mathlib.Core.Bool.{Bool, true, false, not, _||_}
+use mathlib.Core.List.{List, [], _∷_, _++_}
+use native.Mathlib.Omega.{arith}
+use lib.Dec.{eqb, ltb}
+use borrow.Author.Tests.{le-ltb, ne-eqb}
+use lib.ListN.{length, getD, take, drop, replicate, take-append-drop}
+use Rattle.rules.specs.Stock.{sum, lastCount, IsStock}
+use Rattle.rules.specs.Book.{same}
+use Rattle.rules.specs.Refusals.{No, fine, when, atPlace, firstOf, smallest, isStranger, isMiscounted, zeroNo, strangerNo, amountNo, stockNos}
+use Rattle.rules.proofs.Refusals.{first-passed, passed-first, at-place, EachIs, first-refusal-is, when-is, kinds-is, long-is, stranger-is, amount-is}
+use Rattle.rules.proofs.Checks.{accepted-back}
+use Rattle.rules.proofs.SoldOut.{sold-out-miscounted}
+use Rattle.records.specs.Records.{atByte, used, sheetStock, stripBody, sheetStrip, recordNo, paddingNo}
+use Rattle.records.proofs.BodyLaws.{record-there}
+use Rattle.following.proofs.Steps.{follow-is}
+use Rattle.reading.specs.Reading.{followed, readNos}
+use Rattle.reading.proofs.Padding.{used-ends}
+
+-- ---- 2
+
+zero-none : (counts : List ℕ) → (0 < length counts → 1 ≤ lastCount counts) → zeroNo counts ≡ fine
+zero-none [] h = refl
+zero-none (c ∷ counts) h = rw (ne-eqb (lastCount (c ∷ counts)) 0 (omega (arith, h (omega arith))))
+
+sheet-ends : (sheet : List ℕ) → zeroNo (sheetStock sheet) ≡ fine
+unfolding sheetStock
+sheet-ends sheet = zero-none (used (take 16 (drop 1 sheet))) (used-ends (take 16 (drop 1 sheet)))
+
+abbrev NotTwo : ℕ → Type 0
+NotTwo n = n ≡ 2 → ⊥
+
+byte-not-two : (at : ℕ) (b : Bool) → NotTwo (atByte 11 at b .0)
+byte-not-two at true e = omega arith
+byte-not-two at false e = omega arith
+
+record-not-two : (kind body at : ℕ) (sheet : List ℕ) → NotTwo (recordNo kind body at sheet .0)
+unfolding recordNo
+record-not-two kind body at sheet = byte-not-two at (not (eqb (getD sheet at 0) kind) || ltb (length sheet) (at + 1 + body))
+
+padding-not-two : (sheet : List ℕ) → NotTwo (paddingNo sheet .0)
+unfolding paddingNo
+padding-not-two sheet = let rest = drop (sum (sheetStock sheet)) (stripBody sheet) in byte-not-two 17 (not (same rest (replicate (length rest) 0)))
+
+followed-not-two : (sheet : List ℕ) → NotTwo (followed sheet .no .0)
+unfolding followed
+followed-not-two sheet = follow-is NotTwo (λ e. omega arith) (λ e. omega arith) (λ e. omega arith) (sheetStock sheet) (sheetStrip sheet) 82 (drop 82 sheet)
+
+pub two-never : (sheet buffer : List ℕ) → firstOf (readNos sheet buffer) .0 ≡ 2 → ⊥
+unfolding readNos stockNos
+two-never sheet buffer =
+    let none : NotTwo 0 = λ e. omega arith in
+    let counts = sheetStock sheet in
+    let s = sheetStrip sheet in
+    let two : NotTwo (zeroNo counts .0) = rw (sheet-ends sheet) none in
+    let last : EachIs NotTwo (paddingNo sheet ∷ followed sheet .no ∷ []) = (padding-not-two sheet, (followed-not-two sheet, tt)) in
+    let strip : EachIs NotTwo (recordNo 2 64 17 sheet ∷ strangerNo counts s ∷ amountNo counts s ∷ paddingNo sheet ∷ followed sheet .no ∷ []) =
+    (record-not-two 2 64 17 sheet, (stranger-is NotTwo none counts (λ e. omega arith) s, (amount-is NotTwo none counts (λ e. omega arith) s, last))) in
+    first-refusal-is NotTwo none (readNos sheet buffer) (
+      when-is NotTwo none 4 (λ e. omega arith) (ltb (length buffer) 64),
+      (record-not-two 1 16 0 sheet, (kinds-is NotTwo none counts (λ e. omega arith), (two, (long-is NotTwo none counts (λ e. omega arith), strip)))),
+    )
+
+-- ---- sixteen zeros
+
+zeros-first : (buffer rest : List ℕ) → 64 ≤ length buffer → firstOf (readNos ((1 ∷ replicate 16 0) ++ rest) buffer) ≡ (1, 0)
+unfolding readNos sheetStock used stockNos firstOf
+zeros-first buffer rest room = rw (le-ltb (length buffer) 64 room, ← record-there 1 16 0 ((1 ∷ replicate 16 0) ++ rest) refl (omega arith))
+
+pub zeros-are-one : (sheet buffer : List ℕ) → 64 ≤ length buffer → take 17 sheet ≡ 1 ∷ replicate 16 0 → firstOf (readNos sheet buffer) ≡ (1, 0)
+zeros-are-one sheet buffer room h =
+    let e : (1 ∷ replicate 16 0) ++ drop 17 sheet ≡ sheet = rw h at (take-append-drop 17 sheet) in
+    rw e at (zeros-first buffer (drop 17 sheet) room)
+
+-- ---- a byte of a kind without blocks
+
+-- every row before 6 passed
+module _ (sheet buffer : List ℕ) (room : 64 ≤ length buffer) (first : recordNo 1 16 0 sheet .0 ≡ 0) (stock : IsStock (sheetStock sheet))
+    (second : recordNo 2 64 17 sheet .0 ≡ 0) (own : smallest (isStranger (sheetStock sheet)) (sheetStrip sheet) ≡ 0) where
+  pub sold-out-read : (i j : ℕ) → i < length (sheetStrip sheet) → getD (sheetStrip sheet) i 0 ≡ suc j → j < length (sheetStock sheet) → getD (sheetStock sheet) j 0 ≡ 0
+      → firstOf (readNos sheet buffer) .0 ≡ 6
+  unfolding readNos
+  sold-out-read i j inside names kind none =
+      let p = smallest (isMiscounted (sheetStrip sheet)) (sheetStock sheet) in
+      let four : when 4 (ltb (length buffer) 64) .0 ≡ 0 = rw (le-ltb (length buffer) 64 room) in
+      ap (λ (r : No). r .0)
+      (first-passed _ _ four
+      ∙ first-passed _ _ first
+      ∙ passed-first (stockNos (sheetStock sheet)) _ (ap (λ (r : No). r .0) (accepted-back (sheetStock sheet) stock))
+      ∙ first-passed _ _ second
+      ∙ first-passed _ _ (ap (λ (p : ℕ). atPlace 5 p .0) own)
+      ∙ at-place 5 _ p (sold-out-miscounted (sheetStock sheet) (sheetStrip sheet) i j inside names kind none))
