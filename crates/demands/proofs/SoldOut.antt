@@ -16,7 +16,7 @@ use Rattle.numbering.proofs.number.number.Kinds as number
 use Rattle.numbering.proofs.number.number.Reads as number-reads
 use Rattle.numbering.proofs.strip.strip.Kinds as strip
 use Rattle.numbering.proofs.strip.strip.Reads as strip-reads
--- 2 is the last count, before 3; any other count of 0 is none: 0 is 2 at kind 1, 70 0 is 2 at kind 2, 0 70 is 3
+-- 2 is a last count of 0, at that kind and before 3; a count of 0 elsewhere is no refusal. So 0 is 2 at kind 1, 70 0 is 2 at kind 2, and 0 70 is 3
 pub use Rattle.rules.proofs.Checks.{stock-zero, accepted-back}
 pub use Rattle.rules.proofs.Marked.{refused-right}
 -- a kind without blocks has one pattern, first and last at once

@@ -108,7 +108,7 @@ module _ (counts s : List ℕ) where
   next-accepts e =
       let p = passed-both (checkNos counts s) (lastNo counts s ∷ []) e in
       let b = accepted-both counts s (p .0) in
-      (b .0, b .1, omega (arith, dictionary-below counts s (b .1), eqb-false at (total counts) (when-passed 8 _ (passed-head (lastNo counts s) [] (p .1) .0))))
+      (b .0, b .1, omega (arith, dictionary-below counts s (b .1), eqb-false at (total counts) (when-passed 8 0 _ (passed-head (lastNo counts s) [] (p .1) .0))))
 
   -- a refusal by 1 to 6 is none by 9
   refused-to-six : (firstOf (checkNos counts s) .0 ≡ 0 → ⊥) → firstOf (dictionaryNextNos counts s) .0 ≤ 6

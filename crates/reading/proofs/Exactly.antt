@@ -1,11 +1,11 @@
 -- Proofs. A sheet of an accepted stock, a strip of it and no more moves than are left is read; and a sheet that is read is one of these.
-use Prim.Native.Nat.{ℕ, suc, _+_, _-_, _≤_}
+use Prim.Native.Nat.{ℕ, _+_, _-_, _≤_}
 use mathlib.Core.Path.{_≡_, refl, sym, ap, _∙_}
-use mathlib.Core.Bool.{Bool, true, false, not}
+use mathlib.Core.Bool.{true}
 use mathlib.Core.List.{List, [], _∷_, _++_}
 use native.Mathlib.Decide.{ℕ-discrete}
 use native.Mathlib.Omega.{arith}
-use borrow.Author.Tests.{le-ltb, ltb-false}
+use borrow.Author.Tests.{le-ltb, ltb-false, not-false}
 use lib.ListN.{length, getD, take, drop, length-take, length-drop}
 use Rattle.rules.specs.Stock.{sum, IsStock, IsStrip}
 use Rattle.rules.specs.Refusals.{No, fine, firstOf, strangerNo, amountNo, stockNos, stripNos}
@@ -15,7 +15,7 @@ use Rattle.rules.proofs.Strips.{strip-sum}
 use Rattle.walking.specs.Answers.{onward, left}
 use Rattle.sheets.specs.Sheets.{padded, stockRecord, stripRecord, moveRecords, sheetOf}
 use Rattle.sheets.proofs.Bodies.{padded-long}
-use Rattle.records.specs.Records.{atByte, sheetStock, stripBody, sheetStrip, recordNo, paddingNo}
+use Rattle.records.specs.Records.{sheetStock, stripBody, sheetStrip, recordNo, paddingNo}
 use Rattle.records.specs.Opened.{stockAt, stripAt, openingNos}
 use Rattle.records.proofs.BodyLaws.{zeros, record-other, record-there}
 use Rattle.records.proofs.Beginning.{opening-stock, opening-strip, opening-body}
@@ -96,10 +96,6 @@ record-kind kind body at sheet z = elim (ℕ-discrete (getD sheet at 0) kind) [
   | no e ↦ absurd (omega (arith, ap (λ (r : No). r .0) (record-other kind body at sheet e), z))
 ]
 
-byte-passed : (n at : ℕ) (b : Bool) → atByte (suc n) at (not b) .0 ≡ 0 → b ≡ true
-byte-passed n at true z = refl
-byte-passed n at false z = absurd (omega arith)
-
 module _ (sheet buffer : List ℕ) (z : firstOf (readNos sheet buffer) .0 ≡ 0) where
   abbrev counts : List ℕ
   counts = sheetStock sheet
@@ -125,10 +121,10 @@ module _ (sheet buffer : List ℕ) (z : firstOf (readNos sheet buffer) .0 ≡ 0)
       let six = passed-head _ _ (five .1) in
       let pad = passed-head _ _ (six .1) in
       record {
-        room = ltb-false _ _ (when-passed 3 _ (four .0));
+        room = ltb-false _ _ (when-passed 3 0 _ (four .0));
         first = record-kind 1 16 0 sheet (one .0);
         second = record-kind 2 64 17 sheet (two .0);
-        padding = byte-passed 10 17 _ (pad .0);
+        padding = not-false _ (when-passed 10 17 _ (pad .0));
         end = passed-head _ _ (pad .1) .0;
       }
 

@@ -1,7 +1,7 @@
 -- Proofs. A sheet whose stock has counts of 0: 2 is never met, sixteen zeros are 1, and a byte of the strip that names a kind without blocks is 6.
 use Prim.Native.Nat.{ℕ, suc, _+_, _≤_, _<_}
 use mathlib.Core.Path.{_≡_, refl, ap, _∙_}
-use mathlib.Core.Bool.{Bool, true, false, not, _||_}
+use mathlib.Core.Bool.{not, _||_}
 use mathlib.Core.List.{List, [], _∷_, _++_}
 use native.Mathlib.Omega.{arith}
 use lib.Dec.{eqb, ltb}
@@ -9,11 +9,11 @@ use borrow.Author.Tests.{le-ltb, ne-eqb}
 use lib.ListN.{length, getD, take, drop, replicate, take-append-drop}
 use Rattle.rules.specs.Stock.{sum, lastCount, IsStock}
 use Rattle.rules.specs.Book.{same}
-use Rattle.rules.specs.Refusals.{No, fine, when, atPlace, firstOf, smallest, isStranger, isMiscounted, zeroNo, strangerNo, amountNo, stockNos}
-use Rattle.rules.proofs.Refusals.{first-passed, passed-first, at-place, EachIs, first-refusal-is, when-is, kinds-is, long-is, stranger-is, amount-is}
+use Rattle.rules.specs.Refusals.{No, when, atPlace, firstOf, smallest, isStranger, isMiscounted, zeroNo, stockNos}
+use Rattle.rules.proofs.Refusals.{first-passed, passed-first, at-place, end-is, row-is, both-is, when-is, stock-is, stranger-is, amount-is}
 use Rattle.rules.proofs.Checks.{accepted-back}
 use Rattle.rules.proofs.SoldOut.{sold-out-miscounted}
-use Rattle.records.specs.Records.{atByte, used, sheetStock, stripBody, sheetStrip, recordNo, paddingNo}
+use Rattle.records.specs.Records.{used, sheetStock, stripBody, sheetStrip, recordNo, paddingNo}
 use Rattle.records.proofs.BodyLaws.{record-there}
 use Rattle.following.proofs.Steps.{follow-is}
 use Rattle.reading.specs.Reading.{followed, readNos}
@@ -21,47 +21,53 @@ use Rattle.reading.proofs.Padding.{used-ends}
 
 -- ---- 2
 
-zero-none : (counts : List ℕ) → (0 < length counts → 1 ≤ lastCount counts) → zeroNo counts ≡ fine
-zero-none [] h = refl
-zero-none (c ∷ counts) h = rw (ne-eqb (lastCount (c ∷ counts)) 0 (omega (arith, h (omega arith))))
-
-sheet-ends : (sheet : List ℕ) → zeroNo (sheetStock sheet) ≡ fine
-unfolding sheetStock
-sheet-ends sheet = zero-none (used (take 16 (drop 1 sheet))) (used-ends (take 16 (drop 1 sheet)))
-
 abbrev NotTwo : ℕ → Type 0
 NotTwo n = n ≡ 2 → ⊥
 
-byte-not-two : (at : ℕ) (b : Bool) → NotTwo (atByte 11 at b .0)
-byte-not-two at true e = omega arith
-byte-not-two at false e = omega arith
+none : NotTwo 0
+none e = omega arith
+
+one : NotTwo (firstOf (stockNos []) .0)
+unfolding stockNos firstOf
+one e = omega arith
+
+-- a stock that ends in a count that is not 0, or has no kind at all
+stock-not-two : (counts : List ℕ) → (0 < length counts → 1 ≤ lastCount counts) → NotTwo (firstOf (stockNos counts) .0)
+stock-not-two [] ends = one
+stock-not-two (c ∷ cs) ends = stock-is NotTwo none (c ∷ cs) (λ e. omega arith) two (λ e. omega arith)
+  where
+    two : NotTwo (zeroNo (c ∷ cs) .0)
+    two = rw (ne-eqb (lastCount (c ∷ cs)) 0 (omega (arith, ends (omega arith)))) none
+
+sheet-not-two : (sheet : List ℕ) → NotTwo (firstOf (stockNos (sheetStock sheet)) .0)
+unfolding sheetStock
+sheet-not-two sheet = stock-not-two (used (take 16 (drop 1 sheet))) (used-ends (take 16 (drop 1 sheet)))
 
 record-not-two : (kind body at : ℕ) (sheet : List ℕ) → NotTwo (recordNo kind body at sheet .0)
 unfolding recordNo
-record-not-two kind body at sheet = byte-not-two at (not (eqb (getD sheet at 0) kind) || ltb (length sheet) (at + 1 + body))
+record-not-two kind body at sheet = when-is NotTwo none 11 at (λ e. omega arith) (not (eqb (getD sheet at 0) kind) || ltb (length sheet) (at + 1 + body))
 
 padding-not-two : (sheet : List ℕ) → NotTwo (paddingNo sheet .0)
 unfolding paddingNo
-padding-not-two sheet = let rest = drop (sum (sheetStock sheet)) (stripBody sheet) in byte-not-two 17 (not (same rest (replicate (length rest) 0)))
+padding-not-two sheet = let rest = drop (sum (sheetStock sheet)) (stripBody sheet) in when-is NotTwo none 11 17 (λ e. omega arith) (not (same rest (replicate (length rest) 0)))
 
 followed-not-two : (sheet : List ℕ) → NotTwo (followed sheet .no .0)
 unfolding followed
-followed-not-two sheet = follow-is NotTwo (λ e. omega arith) (λ e. omega arith) (λ e. omega arith) (sheetStock sheet) (sheetStrip sheet) 82 (drop 82 sheet)
+followed-not-two sheet = follow-is NotTwo none (λ e. omega arith) (λ e. omega arith) (sheetStock sheet) (sheetStrip sheet) 82 (drop 82 sheet)
 
 pub two-never : (sheet buffer : List ℕ) → firstOf (readNos sheet buffer) .0 ≡ 2 → ⊥
-unfolding readNos stockNos
+unfolding readNos
 two-never sheet buffer =
-    let none : NotTwo 0 = λ e. omega arith in
     let counts = sheetStock sheet in
     let s = sheetStrip sheet in
-    let two : NotTwo (zeroNo counts .0) = rw (sheet-ends sheet) none in
-    let last : EachIs NotTwo (paddingNo sheet ∷ followed sheet .no ∷ []) = (padding-not-two sheet, (followed-not-two sheet, tt)) in
-    let strip : EachIs NotTwo (recordNo 2 64 17 sheet ∷ strangerNo counts s ∷ amountNo counts s ∷ paddingNo sheet ∷ followed sheet .no ∷ []) =
-    (record-not-two 2 64 17 sheet, (stranger-is NotTwo none counts (λ e. omega arith) s, (amount-is NotTwo none counts (λ e. omega arith) s, last))) in
-    first-refusal-is NotTwo none (readNos sheet buffer) (
-      when-is NotTwo none 4 (λ e. omega arith) (ltb (length buffer) 64),
-      (record-not-two 1 16 0 sheet, (kinds-is NotTwo none counts (λ e. omega arith), (two, (long-is NotTwo none counts (λ e. omega arith), strip)))),
-    )
+    row-is NotTwo none _ _ (when-is NotTwo none 4 0 (λ e. omega arith) (ltb (length buffer) 64))
+    (row-is NotTwo none _ _ (record-not-two 1 16 0 sheet)
+    (both-is NotTwo none (stockNos counts) _ (sheet-not-two sheet)
+    (row-is NotTwo none _ _ (record-not-two 2 64 17 sheet)
+    (row-is NotTwo none _ _ (stranger-is NotTwo none counts (λ e. omega arith) s)
+    (row-is NotTwo none _ _ (amount-is NotTwo none counts (λ e. omega arith) s)
+    (row-is NotTwo none _ _ (padding-not-two sheet)
+    (row-is NotTwo none _ [] (followed-not-two sheet) (end-is NotTwo none))))))))
 
 -- ---- sixteen zeros
 

@@ -9,20 +9,20 @@ use lib.Dec.{eqb, ltb}
 use lib.ListN.{length, getD, take, drop, length-take, length-drop}
 use lib.Seq.{take-take, drop-drop}
 use Rattle.rules.specs.Stock.{sum, IsStock, IsStrip}
-use Rattle.rules.specs.Refusals.{No, firstOf, strangerNo, amountNo, stripNos}
+use Rattle.rules.specs.Refusals.{No, whenAt, firstOf, strangerNo, amountNo, stripNos}
 use Rattle.rules.proofs.Last.{drop-take}
 use Rattle.rules.proofs.Refusals.{passed-fine, passed-both}
 use Rattle.rules.proofs.Checks.{length-right, passed-head, accepted, accepted-strip}
 use Rattle.stock.specs.declared.Refusal.{Refusal}
 use Rattle.stock.specs.Refused.{refusal}
 use Rattle.stock.proofs.Tested.{passed, stopped-first, passed-next}
-use Rattle.records.specs.Records.{atByte, used, recordNo}
+use Rattle.records.specs.Records.{used, recordNo}
 use Rattle.records.specs.Opened.{stockAt, stripAt, restAt, stockAtNos, stripAtNos}
 use Rattle.records.proofs.BodyLaws.{zeros, used-prefix, record-short}
 
 -- ---- one row with a byte offset
 
-byte-row : (n at : ℕ) (b : Bool) → firstOf (atByte (suc n) at b ∷ []) ≡ atByte (suc n) at b
+byte-row : (n at : ℕ) (b : Bool) → firstOf (whenAt (suc n) at b ∷ []) ≡ whenAt (suc n) at b
 unfolding firstOf
 byte-row n at true = refl
 byte-row n at false = refl
@@ -94,7 +94,7 @@ module _ (counts : List ℕ) (k : IsStock counts) (at : ℕ) (sheet : List ℕ) 
   own = strangerNo counts (stripAt counts at sheet) ∷ amountNo counts (stripAt counts at sheet) ∷ []
 
   abbrev more : List No
-  more = atByte 11 at (not (zeros (restAt counts at sheet))) ∷ []
+  more = whenAt 11 at (not (zeros (restAt counts at sheet))) ∷ []
 
   own-rows : firstOf own ≡ firstOf (stripNos counts (stripAt counts at sheet))
   unfolding stripNos

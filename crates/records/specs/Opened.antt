@@ -6,10 +6,10 @@ use mathlib.Core.List.{List, [], _∷_, _++_}
 use lib.ListN.{length, take, drop, replicate}
 use Rattle.rules.specs.Stock.{sum, IsStock, IsStrip}
 use Rattle.rules.specs.Book.{same}
-use Rattle.rules.specs.Refusals.{No, firstOf, strangerNo, amountNo, stockNos}
+use Rattle.rules.specs.Refusals.{No, whenAt, firstOf, strangerNo, amountNo, stockNos}
 use Rattle.stock.specs.Refused.{refusal}
 use Rattle.records.specs.declared.opening.Opening.{Opening}
-use Rattle.records.specs.Records.{atByte, used, recordNo}
+use Rattle.records.specs.Records.{used, recordNo}
 
 -- the stock of the record at a byte, and the strip of one for these counts
 unfoldable pub stockAt : ℕ → List ℕ → List ℕ
@@ -31,7 +31,7 @@ unfoldable pub stripAtNos : List ℕ → ℕ → List ℕ → List No
 stripAtNos counts at sheet =
     let s = stripAt counts at sheet in
     let rest = restAt counts at sheet in
-    recordNo 2 64 at sheet ∷ strangerNo counts s ∷ amountNo counts s ∷ atByte 11 at (not (same rest (replicate (length rest) 0))) ∷ []
+    recordNo 2 64 at sheet ∷ strangerNo counts s ∷ amountNo counts s ∷ whenAt 11 at (not (same rest (replicate (length rest) 0))) ∷ []
 
 -- of both, one after the other
 unfoldable pub openingNos : ℕ → List ℕ → List No

@@ -1,17 +1,12 @@
 -- TO BE BELIEVED. The records of a sheet before the moves: which stock and which strip they hold, and the refusals of a record.
 use Prim.Native.Nat.{ℕ, zero, suc, _+_}
-use mathlib.Core.Bool.{Bool, true, false, not, _||_}
+use mathlib.Core.Bool.{not, _||_}
 use mathlib.Core.List.{List, [], _∷_}
 use lib.Dec.{eqb, ltb}
 use lib.ListN.{length, getD, take, drop, replicate}
 use Rattle.rules.specs.Stock.{sum}
 use Rattle.rules.specs.Book.{same}
-use Rattle.rules.specs.Refusals.{No, fine}
-
--- refusal n at a byte offset, where the test holds
-abbrev pub atByte : ℕ → ℕ → Bool → No
-atByte n at true = (n, at)
-atByte n at false = fine
+use Rattle.rules.specs.Refusals.{No, whenAt}
 
 -- ---- the stock and the strip of a sheet
 
@@ -39,10 +34,10 @@ sheetStrip sheet = take (sum (sheetStock sheet)) (stripBody sheet)
 
 -- 11: the record at a byte is not of this kind, or its body is cut short
 unfoldable pub recordNo : ℕ → ℕ → ℕ → List ℕ → No
-recordNo kind body at sheet = atByte 11 at (not (eqb (getD sheet at 0) kind) || ltb (length sheet) (at + 1 + body))
+recordNo kind body at sheet = whenAt 11 at (not (eqb (getD sheet at 0) kind) || ltb (length sheet) (at + 1 + body))
 
 -- 11: padding of the strip not zero
 unfoldable pub paddingNo : List ℕ → No
 paddingNo sheet =
     let rest = drop (sum (sheetStock sheet)) (stripBody sheet) in
-    atByte 11 17 (not (same rest (replicate (length rest) 0)))
+    whenAt 11 17 (not (same rest (replicate (length rest) 0)))

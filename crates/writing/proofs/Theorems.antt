@@ -56,7 +56,7 @@ module _ (κs : Lfts 3) (a : Dens κs write.ps) (r : Written) (s : AtExit (ended
       let p = passed-both (checkNos counts strip) (roomNo (length sheet) moves ∷ fewerNo counts strip moves ∷ []) (sym no-is ∙ e) in
       let b = accepted-both counts strip (p .0) in
       let room = passed-head _ _ (p .1) in
-      (b .0, b .1, ltb-false _ _ (when-passed 12 _ (room .0)), ltb-false _ _ (when-passed 8 _ (passed-head _ _ (room .1) .0)))
+      (b .0, b .1, ltb-false _ _ (when-passed 12 0 _ (room .0)), ltb-false _ _ (when-passed 8 0 _ (passed-head _ _ (room .1) .0)))
 
   pub accepted : IsStock counts → IsStrip counts strip → 83 + 3 * moves ≤ length sheet → moves ≤ left counts strip → r .refusal .no ≡ 0
   unfolding writeNos fewerNo firstOf
