@@ -27,6 +27,7 @@ pub use Rattle.rules.proofs.Directions.{book-turns}
 pub use Rattle.walker.proofs.Differing.{one-wrong}
 -- a byte that names it meets 6, in a strip and in a sheet; in a sheet 2 is never met, and sixteen zeros are 1, place 0
 pub use Rattle.rules.proofs.SoldOut.{sold-out-is-six}
+pub use Rattle.rules.proofs.Marked.{bytes-right}
 pub use Rattle.reading.proofs.Theorems.{sold-out-byte, never-two, sixteen-zeros}
 -- the book of a stock with a sold-out kind is the book of the stock without it, each kind above called one higher, in the same order; that of 2 0 3 is that of
 -- 2 3 with kind 2 called 3
