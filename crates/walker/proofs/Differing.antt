@@ -3,7 +3,6 @@ use Prim.Native.Nat.{ℕ, zero, suc, _+_, _≤_, _<_}
 use mathlib.Core.Path.{_≡_, refl, sym, ap, _∙_}
 use mathlib.Core.Bool.{Bool, true, false, not, Bool·beq}
 use mathlib.Core.List.{List, [], _∷_, _++_}
-use native.Mathlib.Decide.{ℕ-discrete}
 use native.Mathlib.Numerals.{add-one}
 use native.Mathlib.Omega.{arith}
 use borrow.Author.Tests.{not-true, not-false}
@@ -11,7 +10,7 @@ use lib.ListN.{length, getD, drop, set, drop-of-length-le}
 use lib.Seq.{drop-cons}
 use Rattle.rules.specs.Stock.{IsStock, IsStrip}
 use Rattle.rules.specs.Refusals.{No, fine, atPlace, firstOf, checkNos}
-use Rattle.rules.proofs.Refusals.{at-place, refused-first, passed-first, passed-both, unless-passed}
+use Rattle.rules.proofs.Refusals.{at-place, refused-first, passed-first, passed-both, end-is, row-is, both-is, place-is, unless-passed}
 use Rattle.rules.proofs.Checks.{at-passed, passed-head, accepted-both, accepted-both-back, check-to-six}
 use Rattle.stock.specs.Refused.{refusal}
 use Rattle.stock.proofs.Tested.{passed, stopped}
@@ -123,17 +122,20 @@ one-wrong counts s j k h l =
     passed-first (checkNos counts s) _ (accepted-both-back counts s k h) ∙ at-place 9 [] _ (λ z. omega (arith, e, z)) ∙ ap (λ (p : ℕ). (10, p)) e
 
 -- none of 1 to 6 and 10 is 9
-ten : (p : ℕ) → firstOf (atPlace 10 p ∷ []) .0 ≡ 9 → ⊥
-unfolding firstOf
-ten zero e = omega arith
-ten (suc p) e = omega arith
+abbrev NotNine : ℕ → Type 0
+NotNine n = n ≡ 9 → ⊥
+
+none : NotNine 0
+none e = omega arith
+
+ten-not-nine : (counts s : List ℕ) (w : Walker) → NotNine (walkerNo counts s w .0)
+unfolding walkerNo
+ten-not-nine counts s w = place-is NotNine none 10 (λ e. omega arith) (differingFrom 1 (w .back) (walkerOf counts s .back))
 
 pub never-nine : (counts s : List ℕ) (w : Walker) → firstOf (walkerNos counts s w) .0 ≡ 9 → ⊥
-unfolding walkerNo
-never-nine counts s w e = elim (ℕ-discrete (firstOf (checkNos counts s) .0) 0) [
-  | yes z ↦ ten (differingFrom 1 (w .back) (walkerOf counts s .back)) (rw (passed-first (checkNos counts s) (walkerNo counts s w ∷ []) z) at e)
-  | no z ↦ omega (arith, check-to-six counts s, rw (refused-first (checkNos counts s) (walkerNo counts s w ∷ []) z) at e)
-]
+never-nine counts s w =
+    both-is NotNine none (checkNos counts s) (walkerNo counts s w ∷ []) (λ e. omega (arith, check-to-six counts s))
+    (row-is NotNine none (walkerNo counts s w) [] (ten-not-nine counts s w) (end-is NotNine none))
 
 -- ---- 10, after 1 to 6, as a check finds it
 
