@@ -27,13 +27,14 @@ NotTwo n = n ≡ 2 → ⊥
 none : NotTwo 0
 none e = omega arith
 
-one : NotTwo (firstOf (stockNos []) .0)
+-- no kinds are 1
+empty-not-two : NotTwo (firstOf (stockNos []) .0)
 unfolding stockNos firstOf
-one e = omega arith
+empty-not-two e = omega arith
 
 -- a stock that ends in a count that is not 0, or has no kind at all
 stock-not-two : (counts : List ℕ) → (0 < length counts → 1 ≤ lastCount counts) → NotTwo (firstOf (stockNos counts) .0)
-stock-not-two [] ends = one
+stock-not-two [] ends = empty-not-two
 stock-not-two (c ∷ cs) ends = stock-is NotTwo none (c ∷ cs) (λ e. omega arith) two (λ e. omega arith)
   where
     two : NotTwo (zeroNo (c ∷ cs) .0)
