@@ -1,12 +1,13 @@
 /* Plain C to hold the library against. Nothing is checked where the name does not say so: the caller lends what is
- * right. The book is stepped through by the rule's own recursion and by the rule from the left, and numbered by the
- * recursion, as the library does it; the order of a dictionary is the usual other way through the strips of a stock. */
+ * right. The book is stepped through by the rule's own recursion and by the rule from the left, as the library does it,
+ * and numbered by the recursion with a table of binomials, which the library has not. */
 #ifndef PLAIN_H
 #define PLAIN_H
 
 #include <stdbool.h>
 #include <stddef.h>
 #include <stdint.h>
+#include <string.h>
 
 /* A call stays a call, as those of the library do. */
 #define CALLED __attribute__((noinline)) static
@@ -107,6 +108,31 @@ static inline plain_step by_left(const uint8_t *word, size_t a, uint8_t kind, si
     return (l - k) % 2 == 1 ? (plain_step){true, j - 1, k - 1} : (plain_step){true, j, k};
 }
 
+/* The reduced strip at a kind; answers its length. Each block is written, and the next one over it where it is not to
+ * stay: no branch hangs on a block. */
+static size_t reduce(const uint8_t *strip, size_t n, uint8_t kind, uint8_t *word)
+{
+    size_t a = 0;
+    for (size_t i = 0; i < n; i++) {
+        word[a] = strip[i];
+        a += strip[i] <= kind;
+    }
+    return a;
+}
+
+/* Whether the index of the kind's pattern is odd. C(a, b) is where a - b and b have no binary digit in common. */
+static bool has_odd_index(const uint8_t *word, size_t a, uint8_t kind, size_t others)
+{
+    bool odd = false, turned = false;
+    while (others < a) {
+        bool ends = (others & (--a - others)) == 0, own = word[a] == kind;
+        odd ^= own ? turned && !ends : ends;
+        others -= !own;
+        turned = !own && !turned;
+    }
+    return odd;
+}
+
 static uint64_t binomials[65][65];
 
 static void fill_binomials(void)
@@ -153,6 +179,30 @@ static void word_lay(uint8_t *word, size_t a, uint8_t kind, size_t others, uint6
 }
 
 /* ---- the book of a stock */
+
+/* Whether a stock and a strip of it are right: what refusals 1 to 6 look at. */
+static bool is_right(const uint16_t *stock, size_t kinds, const uint8_t *strip, size_t length)
+{
+    size_t n = 0, seen[17] = {0};
+    bool right = kinds >= 1 && kinds <= 16 && stock[kinds - 1] != 0;
+    for (size_t j = 0; right && j < kinds; j++) {
+        n += stock[j];
+        right = n <= 64;
+    }
+    if (!right || length != n) {
+        return false;
+    }
+    for (size_t i = 0; i < n; i++) {
+        if (strip[i] == 0 || strip[i] > kinds) {
+            return false;
+        }
+        seen[strip[i]]++;
+    }
+    for (size_t j = 0; j < kinds; j++) {
+        right = right && seen[j + 1] == stock[j];
+    }
+    return right;
+}
 
 /* The next strip of the book, or the one before it, with the directions of its kinds and the places, from 1, of the two
  * blocks that are exchanged; false where there is none. */
@@ -219,12 +269,7 @@ CALLED uint64_t book_number(const uint16_t *stock, size_t kinds, const uint8_t *
     size_t below = 0;
     for (size_t j = 0; j < kinds; j++) {
         uint8_t word[64];
-        size_t a = 0;
-        for (size_t i = 0; i < n; i++) {
-            if (strip[i] <= j + 1) {
-                word[a++] = strip[i];
-            }
-        }
+        size_t a = reduce(strip, n, (uint8_t)(j + 1), word);
         uint64_t index = word_index(word, a, (uint8_t)(j + 1), below), patterns = binomials[a][below];
         number = number * patterns + (number % 2 == 1 ? patterns - 1 - index : index);
         below += stock[j];
@@ -249,105 +294,35 @@ CALLED void book_strip(const uint16_t *stock, size_t kinds, uint64_t number, uin
     }
 }
 
-/* ---- the dictionary of a stock */
-
-/* The next strip in dictionary order; false on the last. */
-ALWAYS bool dictionary_next(uint8_t *strip, size_t n)
+/* The direction of each kind at a strip. */
+static void directions(const uint16_t *stock, size_t kinds, const uint8_t *strip, size_t n, bool *back)
 {
-    size_t i = n - 1, j = n - 1;
-    while (i > 0 && strip[i - 1] >= strip[i]) {
-        i--;
+    bool odd = false;
+    size_t below = 0;
+    memset(back, false, 16);
+    for (size_t j = 0; j < kinds; j++) {
+        uint8_t word[64];
+        back[j] = odd;
+        odd ^= has_odd_index(word, reduce(strip, n, (uint8_t)(j + 1), word), (uint8_t)(j + 1), below);
+        below += stock[j];
     }
-    if (i == 0) {
+}
+
+CALLED bool checked_open(const uint16_t *stock, size_t kinds, const uint8_t *strip, size_t n, bool *back)
+{
+    if (!is_right(stock, kinds, strip, n)) {
         return false;
     }
-    while (strip[j] <= strip[i - 1]) {
-        j--;
-    }
-    exchange(strip, i - 1, j);
-    for (j = n - 1; i < j; i++, j--) {
-        exchange(strip, i, j);
-    }
+    directions(stock, kinds, strip, n, back);
     return true;
 }
 
-CALLED bool step_by_dictionary(uint8_t *strip, size_t n)
+/* One move on by the recursion, of a strip and directions that are looked at first. */
+CALLED bool checked_walk(const uint16_t *stock, size_t kinds, uint8_t *strip, size_t n, bool *back, uint8_t *places)
 {
-    return dictionary_next(strip, n);
-}
-
-/* Whether a stock and a strip of it are right: what refusals 1 to 6 look at. */
-static bool is_right(const uint16_t *stock, size_t kinds, const uint8_t *strip, size_t length)
-{
-    size_t n = 0, seen[17] = {0};
-    bool right = kinds >= 1 && kinds <= 16 && stock[kinds - 1] != 0;
-    for (size_t j = 0; right && j < kinds; j++) {
-        n += stock[j];
-        right = n <= 64;
-    }
-    if (!right || length != n) {
-        return false;
-    }
-    for (size_t i = 0; i < n; i++) {
-        if (strip[i] == 0 || strip[i] > kinds) {
-            return false;
-        }
-        seen[strip[i]]++;
-    }
-    for (size_t j = 0; j < kinds; j++) {
-        right = right && seen[j + 1] == stock[j];
-    }
-    return right;
-}
-
-CALLED bool checked_step_by_dictionary(const uint16_t *stock, size_t kinds, uint8_t *strip, size_t n)
-{
-    return is_right(stock, kinds, strip, n) && dictionary_next(strip, n);
-}
-
-/* whole * part / n, where only the quotient has to fit. */
-static inline uint64_t share(uint64_t whole, uint64_t part, uint64_t n)
-{
-    return whole / n * part + whole % n * part / n;
-}
-
-/* From the last block to the first: of the blocks behind, their orders and how many of these come before theirs. */
-CALLED uint64_t dictionary_number(const uint8_t *strip, size_t n)
-{
-    uint64_t seen[17] = {0}, orders = 1, number = 0;
-    for (size_t m = 1; m <= n; m++) {
-        uint8_t kind = strip[n - m];
-        uint64_t alike = ++seen[kind], less = 0;
-        for (uint8_t j = 1; j < kind; j++) {
-            less += seen[j];
-        }
-        number += share(orders, less, alike);
-        orders = share(orders, m, alike);
-    }
-    return number;
-}
-
-/* From the first block to the last: of the orders of what is left, each kind begins as large a share as it has of it. */
-CALLED void dictionary_strip(const uint16_t *stock, size_t kinds, uint64_t number, uint8_t *strip, size_t n)
-{
-    uint64_t left[16], ways = 1, m = stock[0];
-    for (size_t j = 0; j < kinds; j++) {
-        left[j] = stock[j];
-        for (uint64_t c = 1; j > 0 && c <= stock[j]; c++) {
-            ways = share(ways, ++m, c);
-        }
-    }
-    for (size_t i = 0; i < n; i++) {
-        size_t kind = 0;
-        uint64_t own;
-        while ((own = share(ways, left[kind], n - i)) <= number) {
-            number -= own;
-            kind++;
-        }
-        ways = own;
-        left[kind]--;
-        strip[i] = (uint8_t)(kind + 1);
-    }
+    bool right[16];
+    return checked_open(stock, kinds, strip, n, right) && memcmp(right, back, sizeof right) == 0 &&
+           book_beside(by_recursion, false, stock, kinds, strip, n, back, places);
 }
 
 #endif

@@ -19,8 +19,8 @@
  *   be written overlaps with nothing else that is lent to the same call. What the elements are is free: any content is
  *   taken, and a bad one is refused. A walker's sixteen bytes are each true or false.
  *   No call keeps a pointer, takes memory or has a state of its own. Every call comes back.
- *   Besides the caller's stack a call needs up to 22 KiB: most copy the table of binomials, which has 17 KiB, and
- *   recursion is at most 64 deep. This is measured on the library as it is built now, and is not promised.
+ *   Besides the caller's stack nelfrupi_walk and nelfrupi_drive need up to 11 KiB, for a recursion that is at most 64
+ *   deep, and each other call up to 2 KiB. This is measured on the library as it is built now, and is not promised.
  *
  * REFUSALS
  *   Each answer says in `refusal` whether the call was accepted (no 0, place 0) or refused (a number of this table, and

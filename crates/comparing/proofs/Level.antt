@@ -17,7 +17,7 @@ use Rattle.rules.proofs.Turned.{sum-next}
 use Rattle.rules.proofs.Prefixes.{one-more, Laid, laid, sum-take}
 use Rattle.rules.proofs.Reduced.{prefix-all}
 use Rattle.rules.proofs.Places.{place-number}
-use Rattle.choose.proofs.Largest.{binom-at-most}
+use Rattle.choose.proofs.Pascal.{binom-at-most}
 use Rattle.comparing.specs.Order.{whichOf}
 use Rattle.comparing.proofs.Numbers.{which-first, which-second, which-equal}
 use Rattle.comparing.proofs.Ahead.{parity-lt, parity-same, parity-next, ahead}
@@ -58,6 +58,10 @@ module _ {counts s t : List ℕ} (hs : IsStrip counts s) (ht : IsStrip counts t)
 
     -- the next kind, once its patterns are counted
     module _ {patterns : ℕ} (are : patterns ≡ binom (below + getD counts j 0) below) where
+      -- they are those of the kind in either strip
+      pub patterns-both : (patterns ≡ binom (length (reduced (j + 1) s)) below) × (patterns ≡ binom (length (reduced (j + 1) t)) below)
+      patterns-both = (rw (one-more counts s hs j h .letters, ← next-blocks) are, rw (one-more counts t ht j h .letters, ← next-blocks) are)
+
       abbrev q : ℕ
       q = number (take j counts) (reduced j s)
 

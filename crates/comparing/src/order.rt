@@ -6,26 +6,25 @@ use pattern::reduce;
 ghost use Prim.Native.Nat.{_≤_};
 ghost use mathlib.Core.Path.{_≡_};
 ghost use lib.ListN.{length};
-ghost use Rattle.rules.specs.Stock.{IsStock, IsStrip};
+ghost use Rattle.rules.specs.Stock.{binom, IsStock, IsStrip};
 ghost use Rattle.rules.specs.Book.{book, placeIn, reduced};
 ghost use Rattle.rules.proofs.Index.{index, rests};
-ghost use Rattle.choose.specs.Triangle.{triangle};
 ghost use Rattle.comparing.specs.Order.{whichOf};
 
 // The index of a kind's pattern in a strip that has so many blocks of the kinds before it.
-fn index_at(rows: &[u64; 2145], strip: &[u8], kind: u8, below: usize) -> u64
-    requires { ⌜ (now rows ≡ triangle) × (length (now strip) ≤ 64) × (below ≡ rests kind (reduced kind (now strip))) ⌝ }
+fn index_at(patterns: u64, strip: &[u8], kind: u8, below: usize) -> u64
+    requires { ⌜ (patterns ≡ binom (length (reduced kind (now strip))) below) × (length (now strip) ≤ 64) × (below ≡ rests kind (reduced kind (now strip))) ⌝ }
     ensures { λ r. ⌜ r ≡ index kind (reduced kind (now (strip .entry))) ⌝ }
 {
     let mut word = [0; 64];
     let n = reduce(strip, kind, &mut word);
-    index_of(rows, &word[..n], kind, below)
+    index_of(patterns, &word[..n], kind, below)
 }
 
 // 1 where the first strip has the smaller number, 2 where the second has, 3 where they are the same strip.
 // As long as the two are level only the parity of their common number is kept: it alone decides how the next kind's patterns run.
-pub fn compare(rows: &[u64; 2145], stock: &[u16], first: &[u8], second: &[u8]) -> u8
-    requires { ⌜ (now rows ≡ triangle) × IsStock (now stock) × IsStrip (now stock) (now first) × IsStrip (now stock) (now second) ⌝ }
+pub fn compare(stock: &[u16], first: &[u8], second: &[u8]) -> u8
+    requires { ⌜ IsStock (now stock) × IsStrip (now stock) (now first) × IsStrip (now stock) (now second) ⌝ }
     ensures { λ r. ⌜ r ≡ whichOf (placeIn (book (now (stock .entry))) (now (first .entry))) (placeIn (book (now (stock .entry))) (now (second .entry))) ⌝ }
 {
     let mut parity: u64 = 0;
@@ -35,9 +34,9 @@ pub fn compare(rows: &[u64; 2145], stock: &[u16], first: &[u8], second: &[u8]) -
         let n = below + stock[j] as usize;
         j += 1;
         let kind = j as u8;
-        let patterns = choose(rows, n, below);
-        let at_first = index_at(rows, first, kind, below);
-        let at_second = index_at(rows, second, kind, below);
+        let patterns = choose(n, below);
+        let at_first = index_at(patterns, first, kind, below);
+        let at_second = index_at(patterns, second, kind, below);
         let first_place = numbered_by(patterns, parity, at_first);
         let second_place = numbered_by(patterns, parity, at_second);
         if first_place < second_place {

@@ -1,6 +1,5 @@
 // Which: the first of two strips, the second, or equal.
 use crate::order::compare;
-use choose::table;
 use stock::Refusal;
 use stock::check_pair;
 ghost use mathlib.Core.Path.{_≡_};
@@ -25,8 +24,7 @@ pub fn which(stock: &[u16], first: &[u8], second: &[u8]) -> Compared
             which: 0,
         };
     }
-    let rows = table();
-    let order = compare(&rows, stock, first, second);
+    let order = compare(stock, first, second);
     Compared {
         refusal: Refusal { no: 0, place: 0 },
         which: order,

@@ -1,5 +1,5 @@
 -- Proofs: nobody needs to read these to know what holds.
-mod Product
+pub mod Product
 mod Runs
 pub mod Marked
 pub mod Theorems

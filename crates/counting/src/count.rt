@@ -1,6 +1,6 @@
 // Count: how many strips the book of a stock has.
+use crate::totals::patterns_of;
 use crate::totals::total_of;
-use choose::table;
 use stock::Refusal;
 use stock::check_stock;
 ghost use mathlib.Core.Path.{_≡_};
@@ -25,8 +25,8 @@ pub fn count(stock: &[u16]) -> Counted
             total: 0,
         };
     }
-    let rows = table();
-    let strips = total_of(&rows, stock);
+    let patterns = patterns_of(stock);
+    let strips = total_of(&patterns, stock);
     if strips == 0 {
         return Counted {
             refusal: Refusal { no: 7, place: 0 },

@@ -4,4 +4,5 @@ pub mod first;
 mod totals;
 
 pub use totals::check_number;
+pub use totals::patterns_of;
 pub use totals::total_of;

@@ -1,4 +1,4 @@
-// The total T of a stock, and whether there is a strip of a number: refusals 7 and 8.
+// How many patterns each kind of a stock has; the total T, their product; and whether there is a strip of a number: refusals 7 and 8.
 use choose::choose;
 use stock::Refusal;
 ghost use mathlib.Core.Path.{_≡_};
@@ -6,28 +6,42 @@ ghost use mathlib.Core.List.{[], _∷_};
 ghost use Rattle.rules.specs.Stock.{total, IsStock};
 ghost use Rattle.rules.specs.Refusals.{firstOf, unless, manyNo, aboveNo};
 ghost use Rattle.stock.specs.Refused.{refusal};
-ghost use Rattle.choose.specs.Triangle.{triangle};
+ghost use Rattle.counting.specs.Patterns.{ArePatterns};
 
 // The largest 64-bit number.
 const MOST: u64 = 18446744073709551615;
 
-// T, or 0 where it is 2^64 or more, which is found before a product wraps.
-pub fn total_of(rows: &[u64; 2145], stock: &[u16]) -> u64
-    requires { ⌜ (now rows ≡ triangle) × IsStock (now stock) ⌝ }
-    ensures { λ r. ⌜ r ≡ unless (manyNo (now (stock .entry))) 0 (total (now (stock .entry))) ⌝ }
+// C(N(j), N(j-1)) for each kind j of the stock, kind 1 first. A call works them out once and lends them on.
+pub fn patterns_of(stock: &[u16]) -> [u64; 16]
+    requires { ⌜ IsStock (now stock) ⌝ }
+    ensures { λ r. ⌜ ArePatterns (now (stock .entry)) r ⌝ }
 {
-    let mut strips: u64 = 1;
+    let mut patterns = [0; 16];
     let mut n: usize = 0;
-    let mut j = 0;
+    let mut j: usize = 0;
     while j < stock.len() {
         let below = n;
         n += stock[j] as usize;
+        patterns[j] = choose(n, below);
         j += 1;
-        let patterns = choose(rows, n, below);
-        if MOST / patterns < strips {
+    }
+    patterns
+}
+
+// T, or 0 where it is 2^64 or more, which is found before a product wraps.
+pub fn total_of(patterns: &[u64; 16], stock: &[u16]) -> u64
+    requires { ⌜ ArePatterns (now stock) (now patterns) × IsStock (now stock) ⌝ }
+    ensures { λ r. ⌜ r ≡ unless (manyNo (now (stock .entry))) 0 (total (now (stock .entry))) ⌝ }
+{
+    let mut strips: u64 = 1;
+    let mut j: usize = 0;
+    while j < stock.len() {
+        let many = patterns[j];
+        j += 1;
+        if MOST / many < strips {
             return 0;
         }
-        strips = strips * patterns;
+        strips = strips * many;
     }
     strips
 }

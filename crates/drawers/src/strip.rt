@@ -1,7 +1,8 @@
 // The strip of a dictionary number.
 use counting::check_number;
+use counting::patterns_of;
+use counting::total_of;
 use entries::strip_at;
-use orders::orders_of;
 use stock::Refusal;
 use stock::check_buffer;
 ghost use mathlib.Core.Path.{_≡_};
@@ -16,7 +17,8 @@ pub fn dictionary_strip(stock: &[u16], number: u64, buffer: &mut [u8]) -> Refusa
     if no != 0 {
         return checked;
     }
-    let strips = orders_of(stock);
+    let patterns = patterns_of(stock);
+    let strips = total_of(&patterns, stock);
     let held = check_number(stock, strips, number);
     let none = held.no;
     if none != 0 {

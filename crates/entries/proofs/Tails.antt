@@ -16,8 +16,8 @@ use Rattle.dictionary.specs.Dictionary.{dictionary}
 use Rattle.dictionary.proofs.Amounts.{Kinds, count-hit, count-miss, lower, lower-length, lower-zero, lower-suc, orders, orders-some, orders-none, orders-strip, orders-more}
 use Rattle.dictionary.proofs.Places.{rank, rank-below, dictRank, strip-kinds}
 use Rattle.dictionary.proofs.Theorems.{place-rank}
-use Rattle.orders.specs.Fitting.{fitting}
-use Rattle.orders.proofs.Parts.{same-share, fits, zero-over, some-fits}
+use Rattle.entries.specs.Fitting.{fitting}
+use Rattle.entries.proofs.Fitting.{same-share, fits, zero-over, some-fits}
 
 -- ---- a tail has no more orders than the whole
 

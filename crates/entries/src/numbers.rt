@@ -1,13 +1,13 @@
 // The number of a strip in the dictionary, from its last block to its first.
-use orders::grown;
-use orders::share;
+use crate::growing::grown;
+use choose::scale;
 ghost use Prim.Native.Nat.{_^_, _≤_, _<_};
 ghost use mathlib.Core.Path.{_≡_};
 ghost use lib.ListN.{length, take};
 ghost use Rattle.rules.specs.Stock.{sum, total, IsStock, IsStrip};
 ghost use Rattle.rules.specs.Book.{placeIn};
 ghost use Rattle.dictionary.specs.Dictionary.{dictionary};
-ghost use Rattle.orders.specs.Fitting.{fitting};
+ghost use Rattle.entries.specs.Fitting.{fitting};
 
 // Where a strip stands: how many strips its stock has, 0 where they are 2^64 or more, and else its number.
 pub struct Entry {
@@ -53,7 +53,7 @@ pub fn entry_of(stock: &[u16], strip: &[u8]) -> Entry
                 number: 0,
             };
         }
-        number += share(orders, less, alike);
+        number += scale(orders, less, alike);
         orders = more;
         seen[kind] = alike;
     }

@@ -1,5 +1,5 @@
 // The strip of a number in the dictionary, from its first block to its last.
-use orders::share;
+use choose::scale;
 ghost use Prim.Native.Nat.{_≤_, _<_};
 ghost use mathlib.Core.Path.{_≡_};
 ghost use mathlib.Core.List.{[]};
@@ -38,7 +38,7 @@ fn choose_kind(left: &[u64; 16], kinds: usize, n: u64, ways: u64, rest: u64) -> 
     let mut kind: usize = 0;
     let mut ahead: u64 = 0;
     loop {
-        let own = share(ways, left[kind], n);
+        let own = scale(ways, left[kind], n);
         if rest - ahead < own {
             return Choice { kind, ahead, own };
         }

@@ -1,6 +1,5 @@
 // Following the moves of a sheet to its end.
 use crate::Readout;
-use choose::table;
 use stock::Refusal;
 use walker::Walker;
 use walker::directions::walker_of;
@@ -97,7 +96,6 @@ pub fn follow_from(sheet: &[u8], from: usize, stock: &[u16], strip: &mut [u8]) -
     requires { ⌜ IsStock (now stock) × IsStrip (now stock) (now strip) ⌝ }
     ensures { λ r. ⌜ Ends (follow (now (stock .entry)) (now (strip .entry)) from (drop from (now (sheet .entry)))) r (now (strip .exit)) ⌝ }
 {
-    let rows = table();
-    let walker = walker_of(&rows, stock, strip);
+    let walker = walker_of(stock, strip);
     follow_on(sheet, from, stock, strip, walker)
 }

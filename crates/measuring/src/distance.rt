@@ -1,5 +1,5 @@
 // Distance: how many moves on from one strip another is, or back where the number is negative.
-use choose::table;
+use counting::patterns_of;
 use counting::total_of;
 use numbering::number_of;
 use stock::Refusal;
@@ -60,15 +60,15 @@ pub fn distance(stock: &[u16], first: &[u8], second: &[u8]) -> Apart
             moves: 0,
         };
     }
-    let rows = table();
-    let strips = total_of(&rows, stock);
+    let patterns = patterns_of(stock);
+    let strips = total_of(&patterns, stock);
     if strips == 0 {
         return Apart {
             refusal: Refusal { no: 7, place: 0 },
             moves: 0,
         };
     }
-    let from = number_of(&rows, stock, first);
-    let to = number_of(&rows, stock, second);
+    let from = number_of(&patterns, stock, first);
+    let to = number_of(&patterns, stock, second);
     moves_between(from, to)
 }

@@ -13,22 +13,21 @@ use Rattle.rules.specs.Book.{book, odd, reduced}
 use Rattle.rules.proofs.Listed.{face}
 use Rattle.rules.proofs.Index.{index}
 use Rattle.rules.proofs.Strips.{number, listed}
-use Rattle.rules.proofs.Turned.{sum-next}
 use Rattle.rules.proofs.Reduced.{prefix-all}
-use Rattle.rules.proofs.Prefixes.{sum-take, binom-some}
 use Rattle.rules.proofs.Numbers.{odd-rest}
 use Rattle.rules.proofs.TakenApart.{number-below, index-from}
+use Rattle.counting.specs.Patterns.{ArePatterns}
+use Rattle.counting.proofs.Product.{some-patterns}
 
-pub record Descending (counts s indices : List ℕ) (letters left j : ℕ) : Type 0 where
+pub record Descending (counts s indices : List ℕ) (left j : ℕ) : Type 0 where
   pub own : IsStrip counts s
   pub room : length indices ≡ 16
   pub kinds : j ≤ length counts
-  pub blocks : letters ≡ sum (take j counts)
   pub numbers : left ≡ number (take j counts) (reduced j s)
   pub found : (m : ℕ) → j ≤ m → m < length counts → getD indices m 0 ≡ index (suc m) (reduced (suc m) s)
 
-pub start : (counts : List ℕ) (i n : ℕ) → i < total counts → n ≡ sum counts → Descending counts (getD (book counts) i []) (replicate 16 0) n i (length counts)
-start counts i n h is =
+pub start : (counts : List ℕ) (i : ℕ) → i < total counts → Descending counts (getD (book counts) i []) (replicate 16 0) i (length counts)
+start counts i h =
     let s = getD (book counts) i [] in
     let own : IsStrip counts s = listed counts .sound i h in
     let all : take (length counts) counts ≡ counts = take-all (length counts) counts (omega arith) in
@@ -36,66 +35,48 @@ start counts i n h is =
       own = own;
       room = length-replicate {A = ℕ} 16 0;
       kinds = omega arith;
-      blocks = rw all is;
       numbers = rw (all, prefix-all counts s own) (sym (listed counts .place i h));
       found = λ m a b. absurd (omega arith);
     }
 
-module _ {counts s indices : List ℕ} {letters left : ℕ} where
-  module _ {j : ℕ} (d : Descending counts s indices letters left (suc j)) where
-    next-blocks : letters ≡ getD counts j 0 + sum (take j counts)
-    next-blocks = d .blocks ∙ sum-next counts j (d .kinds)
-
+module _ {counts s indices : List ℕ} {left : ℕ} where
+  module _ {j : ℕ} (d : Descending counts s indices left (suc j)) where
     -- the kind's index is written, and the number is that of the kinds below
-    module _ (patterns : ℕ) (is : patterns ≡ binom letters (letters - getD counts j 0)) (at : ℕ) (face-is : at ≡ face (eqb (left / patterns % 2) 1) patterns (left % patterns)) where
-      patterns-are : patterns ≡ binom (sum (take (suc j) counts)) (sum (take j counts))
-      patterns-are =
-          let e : letters - getD counts j 0 ≡ sum (take j counts) = omega (arith, next-blocks) in
-          is ∙ rw (e, d .blocks)
-
+    module _ (patterns : ℕ) (are : patterns ≡ binom (sum (take (suc j) counts)) (sum (take j counts))) (at : ℕ) (face-is : at ≡ face (eqb (left / patterns % 2) 1) patterns (left % patterns)) where
       left-is : left / patterns ≡ number (take j counts) (reduced j s)
-      left-is = rw (patterns-are, d .numbers) (number-below counts s (d .own) j (d .kinds))
+      left-is = rw (are, d .numbers) (number-below counts s (d .own) j (d .kinds))
 
       at-is : at ≡ index (suc j) (reduced (suc j) s)
       at-is =
           face-is
           ∙ ap (λ (b : Bool). face b patterns (left % patterns)) (odd-rest (left / patterns) ∙ ap odd left-is)
-          ∙ rw (patterns-are, d .numbers) (index-from counts s (d .own) j (d .kinds))
+          ∙ rw (are, d .numbers) (index-from counts s (d .own) j (d .kinds))
 
       next-found : (m : ℕ) → j ≤ m → m < length counts → j < 16 → Dec (m ≡ j) → getD (set indices j at) m 0 ≡ index (suc m) (reduced (suc m) s)
       next-found m a b k (yes e) = rw (e, getD-set-same indices j at 0 (omega (arith, d .room))) at-is
       next-found m a b k (no e) = getD-set-other indices j m at 0 e ∙ d .found m (omega arith) b
 
-      on-one : length counts ≤ 16 → Descending counts s (set indices j at) (letters - getD counts j 0) (left / patterns) j
+      on-one : length counts ≤ 16 → Descending counts s (set indices j at) (left / patterns) j
       on-one few = record {
         own = d .own;
         room = length-set indices j at ∙ d .room;
         kinds = omega (arith, d .kinds);
-        blocks = omega (arith, next-blocks);
         numbers = left-is;
         found = λ m a b. next-found m a b (omega (arith, d .kinds)) (ℕ-discrete m j);
       }
 
   -- ---- the same in the terms of the loop, which has taken 1 from j
 
-  module _ {j : ℕ} (d : Descending counts s indices letters left j) (h : 0 < j) where
+  module _ {j : ℕ} (d : Descending counts s indices left j) (h : 0 < j) (patterns : List ℕ) (are : ArePatterns counts patterns) where
     e : j ≡ suc (j - 1)
     e = omega arith
 
-    pub fewer : getD counts (j - 1) 0 ≤ letters
-    fewer = omega (arith, next-blocks (rw e at d))
+    pub some : 0 < getD patterns (j - 1) 0
+    some = some-patterns counts patterns are (j - 1) (omega (arith, d .kinds))
 
-    pub short : sum counts ≤ 64 → letters ≤ 64
-    short l = omega (arith, d .blocks, sum-take counts j)
+    pub on : length counts ≤ 16 → (at : ℕ) → at ≡ face (eqb (left / getD patterns (j - 1) 0 % 2) 1) (getD patterns (j - 1) 0) (left % getD patterns (j - 1) 0)
+        → Descending counts s (set indices (j - 1) at) (left / getD patterns (j - 1) 0) (j - 1)
+    on few at face-is = on-one (rw e at d) (getD patterns (j - 1) 0) (are .each (j - 1) (omega (arith, d .kinds))) at face-is few
 
-    module _ (patterns : ℕ) (is : patterns ≡ binom letters (letters - getD counts (j - 1) 0)) where
-      pub some : 0 < patterns
-      some =
-          let f : getD counts (j - 1) 0 + (letters - getD counts (j - 1) 0) ≡ letters = omega (arith, fewer) in
-          rw is (rw f at (binom-some (letters - getD counts (j - 1) 0) (getD counts (j - 1) 0)))
-
-      pub on : length counts ≤ 16 → (at : ℕ) → at ≡ face (eqb (left / patterns % 2) 1) patterns (left % patterns) → Descending counts s (set indices (j - 1) at) (letters - getD counts (j - 1) 0) (left / patterns) (j - 1)
-      on few at face-is = on-one (rw e at d) patterns is at face-is few
-
-  pub end : {j : ℕ} → Descending counts s indices letters left j → j ≤ 0 → (m : ℕ) → m < length counts → getD indices m 0 ≡ index (suc m) (reduced (suc m) s)
+  pub end : {j : ℕ} → Descending counts s indices left j → j ≤ 0 → (m : ℕ) → m < length counts → getD indices m 0 ≡ index (suc m) (reduced (suc m) s)
   end d h m l = d .found m (omega arith) l

@@ -14,6 +14,7 @@ use Rattle.rules.proofs.Reduced.{prefix-strip, prefix-all}
 use Rattle.rules.proofs.Places.{book-only}
 use Rattle.rules.proofs.TakenApart.{index-within, reduced-laid}
 use Rattle.rules.proofs.Rising as rising
+use Rattle.counting.specs.Patterns.{ArePatterns}
 
 abbrev pub stripAt : List ℕ → ℕ → List ℕ
 stripAt counts number = getD (book counts) number []
@@ -36,9 +37,15 @@ module _ (counts : List ℕ) (number : ℕ) (below : number < total counts) wher
       abbrev to : ℕ
       to = from + getD counts j 0
 
-      pub within : i < binom (length (take to strip)) from
+      within : i < binom (length (take to strip)) from
       unfolding index
       within = rw (is, rising.long l h, rising.next-blocks l h, l .blocks) (index-within counts s own j h)
+
+      pub patterns-here : (patterns : List ℕ) → ArePatterns counts patterns → getD patterns j 0 ≡ binom (length (take to strip)) from
+      patterns-here patterns are = rw (rising.long l h, rising.next-blocks l h, l .blocks) (are .each j h)
+
+      pub within-patterns : (patterns : List ℕ) → ArePatterns counts patterns → i < getD patterns j 0
+      within-patterns patterns are = rw (patterns-here patterns are) within
 
       -- the first places hold the next reduced strip
       module _ (word : List ℕ) (kept : length word ≡ length (take to strip)) (laid : word ≡ lay (j + 1) (take from (take to strip)) (getD (E (length (take to strip)) from) i [])) where

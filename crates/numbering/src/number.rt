@@ -1,6 +1,6 @@
 // Number: the strip's place in the book of its stock.
 use crate::numbers::number_of;
-use choose::table;
+use counting::patterns_of;
 use counting::total_of;
 use stock::Refusal;
 use stock::check_strip;
@@ -26,15 +26,15 @@ pub fn number(stock: &[u16], strip: &[u8]) -> Numbered
             number: 0,
         };
     }
-    let rows = table();
-    let strips = total_of(&rows, stock);
+    let patterns = patterns_of(stock);
+    let strips = total_of(&patterns, stock);
     if strips == 0 {
         return Numbered {
             refusal: Refusal { no: 7, place: 0 },
             number: 0,
         };
     }
-    let found = number_of(&rows, stock, strip);
+    let found = number_of(&patterns, stock, strip);
     Numbered {
         refusal: Refusal { no: 0, place: 0 },
         number: found,

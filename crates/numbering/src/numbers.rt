@@ -1,5 +1,4 @@
 // The number of a strip, kind after kind.
-use choose::choose;
 use pattern::faced;
 use pattern::index_of;
 use pattern::reduce;
@@ -8,7 +7,7 @@ ghost use mathlib.Core.Path.{_≡_};
 ghost use Rattle.rules.specs.Stock.{total, IsStock, IsStrip};
 ghost use Rattle.rules.specs.Book.{book, placeIn};
 ghost use Rattle.rules.proofs.Snake.{numbered};
-ghost use Rattle.choose.specs.Triangle.{triangle};
+ghost use Rattle.counting.specs.Patterns.{ArePatterns};
 
 // One kind more: the number before times the patterns of the kind, and the index, counted backward where the number before is odd.
 pub fn numbered_by(patterns: u64, number: u64, index: u64) -> u64
@@ -19,8 +18,8 @@ pub fn numbered_by(patterns: u64, number: u64, index: u64) -> u64
 }
 
 // The number of a strip whose stock can be numbered, one kind more at a time.
-pub fn number_of(rows: &[u64; 2145], stock: &[u16], strip: &[u8]) -> u64
-    requires { ⌜ (now rows ≡ triangle) × IsStock (now stock) × IsStrip (now stock) (now strip) × (total (now stock) < 2 ^ 64) ⌝ }
+pub fn number_of(patterns: &[u64; 16], stock: &[u16], strip: &[u8]) -> u64
+    requires { ⌜ ArePatterns (now stock) (now patterns) × IsStock (now stock) × IsStrip (now stock) (now strip) × (total (now stock) < 2 ^ 64) ⌝ }
     ensures { λ r. ⌜ r ≡ placeIn (book (now (stock .entry))) (now (strip .entry)) ⌝ }
 {
     let mut word = [0; 64];
@@ -28,12 +27,12 @@ pub fn number_of(rows: &[u64; 2145], stock: &[u16], strip: &[u8]) -> u64
     let mut below: usize = 0;
     let mut j: usize = 0;
     while j < stock.len() {
+        let many = patterns[j];
         j += 1;
         let kind = j as u8;
         let n = reduce(strip, kind, &mut word);
-        let patterns = choose(rows, n, below);
-        let index = index_of(rows, &word[..n], kind, below);
-        number = numbered_by(patterns, number, index);
+        let index = index_of(many, &word[..n], kind, below);
+        number = numbered_by(many, number, index);
         below = n;
     }
     number

@@ -1,7 +1,7 @@
 // Strip: the strip of a number in the book of a stock.
 use crate::strips::strip_of;
-use choose::table;
 use counting::check_number;
+use counting::patterns_of;
 use counting::total_of;
 use stock::Refusal;
 use stock::check_buffer;
@@ -17,13 +17,13 @@ pub fn strip(stock: &[u16], number: u64, buffer: &mut [u8]) -> Refusal
     if no != 0 {
         return checked;
     }
-    let rows = table();
-    let strips = total_of(&rows, stock);
+    let patterns = patterns_of(stock);
+    let strips = total_of(&patterns, stock);
     let held = check_number(stock, strips, number);
     let none = held.no;
     if none != 0 {
         return held;
     }
-    strip_of(&rows, stock, number, buffer);
+    strip_of(&patterns, stock, number, buffer);
     held
 }

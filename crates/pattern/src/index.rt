@@ -1,36 +1,66 @@
 // The index of a kind's pattern in a word of blocks.
-use choose::choose;
-ghost use Prim.Native.Nat.{_≤_};
+use choose::ends_in_k;
+use choose::ends_in_kr;
+use choose::ends_in_rr;
+ghost use Prim.Native.Nat.{ℕ, _+_, _^_, _≤_, _<_};
 ghost use mathlib.Core.Path.{_≡_};
 ghost use lib.ListN.{length};
+ghost use Rattle.rules.specs.Stock.{binom};
+ghost use Rattle.rules.proofs.Listed.{face};
 ghost use Rattle.rules.proofs.Index.{index, rests};
-ghost use Rattle.choose.specs.Triangle.{triangle};
 
-// By the rule, words that end in K come first, then those that end in K R, in reverse order, then those that end in R R. One pass over the word,
-// at most 64 deep.
-pub fn index_of(rows: &[u64; 2145], word: &[u8], kind: u8, others: usize) -> u64
-    requires { ⌜ (now rows ≡ triangle) × (length (now word) ≤ 64) × (others ≡ rests kind (now word)) ⌝ }
+// Where a part of a list begins. The list begins at `from` and has `all` in it; of these, `ahead` stand before the part and `own` in it, or behind the
+// part where the list is turned.
+fn part_from(turned: bool, from: u64, all: u64, ahead: u64, own: u64) -> u64
+    requires { ⌜ (ahead + own ≤ all) × (from + all < 2 ^ 64) ⌝ }
+    ensures { λ r. ⌜ (r + own ≤ from + all) × ((i : ℕ) → i < own → from + face turned all (ahead + i) ≡ r + face turned own i) ⌝ }
+{
+    if turned {
+        return from + (all - ahead - own);
+    }
+    from + ahead
+}
+
+// By the rule, words that end in K come first, then those that end in K R, in reverse order, then those that end in R R. So each turn takes one or two
+// letters off the end of the word, and what is left of the list narrows: a letters and b letters R are left, with `all` their patterns, which begin at
+// `from` and are turned where an odd number of parts was reversed.
+pub fn index_of(patterns: u64, word: &[u8], kind: u8, others: usize) -> u64
+    requires { ⌜ (length (now word) ≤ 64) × (others ≡ rests kind (now word)) × (patterns ≡ binom (length (now word)) others) ⌝ }
     ensures { λ r. ⌜ r ≡ index kind (now (word .entry)) ⌝ }
 {
-    let a = word.len();
-    if others == 0 {
-        return 0;
+    let mut a = word.len();
+    let mut b = others;
+    let mut all = patterns;
+    let mut from: u64 = 0;
+    let mut turned = false;
+    while b < a {
+        if b == 0 {
+            return from;
+        }
+        let last = word[a - 1];
+        let before = word[a - 2];
+        if last == kind {
+            let in_k = ends_in_k(all, a, b);
+            from = part_from(turned, from, all, 0, in_k);
+            all = in_k;
+            a -= 1;
+        } else {
+            if before == kind {
+                let in_k = ends_in_k(all, a, b);
+                let in_kr = ends_in_kr(all, a, b);
+                from = part_from(turned, from, all, in_k, in_kr);
+                all = in_kr;
+                turned = !turned;
+                a -= 2;
+                b -= 1;
+            } else {
+                let in_rr = ends_in_rr(all, a, b);
+                from = part_from(turned, from, all, all - in_rr, in_rr);
+                all = in_rr;
+                a -= 2;
+                b -= 2;
+            }
+        }
     }
-    if a <= others {
-        return 0;
-    }
-    let last = a - 1;
-    if word[last] == kind {
-        return index_of(rows, &word[..last], kind, others);
-    }
-    let before = a - 2;
-    let rest = others - 1;
-    let in_k = choose(rows, last, others);
-    let in_kr = choose(rows, before, rest);
-    if word[before] == kind {
-        let i = index_of(rows, &word[..before], kind, rest);
-        return in_k + (in_kr - 1 - i);
-    }
-    let i = index_of(rows, &word[..before], kind, rest - 1);
-    in_k + (in_kr + i)
+    from
 }

@@ -1,5 +1,5 @@
 -- Proofs. The walker while it is built: j kinds have their directions, and the parity of the reduced strip's number at j is known.
-use Prim.Native.Nat.{ℕ, suc, _+_, _%_, _≤_, _<_}
+use Prim.Native.Nat.{ℕ, suc, _+_, _≤_, _<_}
 use mathlib.Core.Path.{_≡_, refl, sym, ap, _∙_}
 use mathlib.Core.Bool.{Bool, true, false, not, _&&_, Bool·beq}
 use mathlib.Core.List.{List}
@@ -7,32 +7,26 @@ use native.Mathlib.Decide.{decLt}
 use native.Mathlib.Numerals.{add-one}
 use native.Mathlib.Omega.{arith}
 use borrow.Author.Tests.{le-leb, lt-leb}
-use lib.Dec.{eqb, leb}
+use lib.Dec.{leb}
 use lib.ListN.{length, getD, take, set}
 use Rattle.rules.specs.Stock.{sum, binom, IsStock, IsStrip}
 use Rattle.rules.specs.Book.{odd, reduced, backward}
-use Rattle.rules.proofs.Listed.{flip}
+use Rattle.rules.proofs.Listed.{differs}
 use Rattle.rules.proofs.Snake.{numbered}
 use Rattle.rules.proofs.Books.{number′}
 use Rattle.rules.proofs.Strips.{number, strip-sum}
 use Rattle.rules.proofs.Index.{rests, index}
 use Rattle.rules.proofs.Prefixes.{OneMore, one-more, sum-take}
-use Rattle.rules.proofs.Numbers.{odd-rest}
-use Rattle.rules.proofs.Parity.{odd-index, backward-number}
+use Rattle.rules.proofs.Parity as parity
+use Rattle.rules.proofs.Parity.{backward-number}
 use Rattle.walker.specs.declared.Walker.{Walker}
 use Rattle.walker.specs.Walkers.{walkerOf, allForward}
 use Rattle.walker.proofs.ByKind.{stored, walkerTo, walker-to, to-long, to-at}
 
 -- ---- the parity, with one kind more
 
-unlike-flip : (a b : Bool) → not (Bool·beq a b) ≡ flip b a
-unlike-flip false false = refl
-unlike-flip false true = refl
-unlike-flip true false = refl
-unlike-flip true true = refl
-
-pub odd-next : (before : Bool) (i n q : ℕ) → i < n → odd q ≡ before → not (Bool·beq (eqb (i % 2) 1) before) ≡ odd (numbered n q i)
-odd-next before i n q h e = rw (odd-rest i, ← e) (unlike-flip (odd i) (odd q) ∙ sym (odd-index n q i h))
+odd-next : (before odd-index : Bool) (n q i : ℕ) → i < n → odd q ≡ before → odd-index ≡ odd i → not (Bool·beq before odd-index) ≡ odd (numbered n q i)
+odd-next before odd-index n q i h e f = rw (f, ← e) (differs (odd q) (odd i) ∙ sym (parity.odd-index n q i h))
 
 -- ---- the walker, with one kind more
 
@@ -82,12 +76,11 @@ module _ (counts s : List ℕ) (w : Walker) (before : Bool) (below j : ℕ) (b :
         let e : before ≡ backward counts (suc j) s = sym (backward-number counts s strip j (omega arith) ∙ b .parity) in
         rw (b .so-far, e, add-one j) (one-to counts s j (omega (arith, stock .few)))
 
-    pub on : (n place : ℕ) (next : Bool) → n ≡ length (reduced (j + 1) s) → place ≡ index (j + 1) (reduced (j + 1) s)
-        → ((patterns q : ℕ) → place < patterns → odd q ≡ before → next ≡ odd (numbered patterns q place)) → Built counts s (record { back = set (w .back) j before }) next n (j + 1)
-    on n place next n-is place-is next-is = record {
+    pub on : (n : ℕ) (odd-index : Bool) → n ≡ length (reduced (j + 1) s) → odd-index ≡ odd (index (j + 1) (reduced (j + 1) s)) → Built counts s (record { back = set (w .back) j before }) (not (Bool·beq before odd-index)) n (j + 1)
+    on n odd-index n-is index-is = record {
       done = omega arith;
       blocks = n-is ∙ more .letters;
-      parity = sym (next-is (binom (sum (take (j + 1) counts)) (sum (take j counts))) (number (take j counts) (reduced j s)) (rw place-is (more .within)) (b .parity) ∙ rw place-is (ap odd (more .next)));
+      parity = sym (odd-next before odd-index (binom (sum (take (j + 1) counts)) (sum (take j counts))) (number (take j counts) (reduced j s)) (index (j + 1) (reduced (j + 1) s)) (more .within) (b .parity) index-is ∙ ap odd (more .next));
       so-far = stored-now;
     }
 

@@ -1,7 +1,6 @@
 // Open: the walker of a strip.
 use crate::Walker;
 use crate::directions::walker_of;
-use choose::table;
 use stock::Refusal;
 use stock::check_strip;
 ghost use mathlib.Core.Path.{_≡_};
@@ -27,8 +26,7 @@ pub fn open(stock: &[u16], strip: &[u8]) -> Opened
             walker: forward,
         };
     }
-    let rows = table();
-    let found = walker_of(&rows, stock, strip);
+    let found = walker_of(stock, strip);
     Opened {
         refusal: Refusal { no: 0, place: 0 },
         walker: found,

@@ -2,7 +2,6 @@
 use crate::moves::has_moves;
 use crate::room::has_room;
 use crate::whole::put_sheet;
-use choose::table;
 use sheets::Written;
 use sheets::records::padded_strip;
 use stock::Refusal;
@@ -30,8 +29,7 @@ pub fn write_sheet(stock: &[u16], strip: &[u8], moves: u64, sheet: &mut [u8]) ->
             length: 0,
         };
     }
-    let rows = table();
-    let walker = walker_of(&rows, stock, strip);
+    let walker = walker_of(stock, strip);
     let c = moves as usize;
     let n = strip.len();
     let mut word = padded_strip(strip);

@@ -5,19 +5,19 @@ use mathlib.Core.List.{List}
 use native.Mathlib.Omega.{arith}
 use lib.ListN.{length, getD}
 use borrow.Author.Needs.{needs}
-use Rattle.rules.specs.Stock.{IsStock, IsStrip}
+use Rattle.rules.specs.Stock.{binom, IsStock, IsStrip}
 use Rattle.rules.specs.Book.{reduced}
 use Rattle.rules.proofs.Index.{rests}
 use Rattle.rules.proofs.Strips.{strip-sum}
-use Rattle.comparing.proofs.Level.{Level, Indices, Turn, start, short, rests-both, fits-both, turn, end}
+use Rattle.comparing.proofs.Level.{Level, Indices, Turn, start, short, rests-both, patterns-both, fits-both, turn, end}
 use Rattle.comparing.proofs.order.compare.Statement.{statement}
 use Rattle.comparing.proofs.order.compare.Tie as tie
 
 abbrev Inv-loop : tie.InvT-loop
-Inv-loop rows stock first second parity₀ below₀ j₀ parity below j = Level stock first second parity below j
+Inv-loop stock first second parity₀ below₀ j₀ parity below j = Level stock first second parity below j
 
 abbrev μ-loop : tie.MeasureT-loop
-μ-loop rows stock first second parity₀ below₀ j₀ parity below j = length stock - j
+μ-loop stock first second parity₀ below₀ j₀ parity below j = length stock - j
 
 module _ (c : tie.In-loop Inv-loop μ-loop) where
   abbrev counts : List ℕ
@@ -40,13 +40,16 @@ module _ (c : tie.In-loop Inv-loop μ-loop) where
   n = below + getD counts (c .before .loop .j) 0
 
   accepted : IsStock counts × IsStrip counts one × IsStrip counts two
-  accepted = let p = c .before .before .before .before .before .pre in (p .1, p .2, p .3)
+  accepted = let p = c .before .before .before .before .before .pre in (p .0, p .1, p .2)
 
   within : n ≤ 64
   within = short (accepted .1) (accepted .2) (c .before .loop .inv) (accepted .0) (c .loop-test .taken)
 
   rests-of : (below ≡ rests kind (reduced kind one)) × (below ≡ rests kind (reduced kind two))
   rests-of = rests-both (accepted .1) (accepted .2) (c .before .loop .inv) (accepted .0) (c .loop-test .taken)
+
+  patterns-in : {patterns : ℕ} → patterns ≡ binom n below → (patterns ≡ binom (length (reduced kind one)) below) × (patterns ≡ binom (length (reduced kind two)) below)
+  patterns-in are = patterns-both (accepted .1) (accepted .2) (c .before .loop .inv) (accepted .0) (c .loop-test .taken) are
 
 cast-n : tie.Need-cast-n Inv-loop μ-loop
 cast-n c = omega (arith, c .shared-slice-known4 .given (c .before .before .loop .j))
@@ -58,19 +61,19 @@ cast-kind : tie.Need-cast-kind Inv-loop μ-loop
 cast-kind c = omega (arith, accepted (c .before) .0 .few)
 
 choose-requires : tie.Need-choose-requires Inv-loop μ-loop
-choose-requires c κs = (c .before .before .before .before .before .before .pre .0, omega arith, within (c .before))
+choose-requires c κs = (omega arith, within (c .before))
 
 index-at-requires : tie.Need-index-at-requires Inv-loop μ-loop
 index-at-requires c κs =
     let b = c .before .before in
     let a = accepted b in
-    (b .before .before .before .before .before .pre .0, omega (arith, strip-sum _ _ (a .1), a .0 .short), rests-of b .0)
+    (patterns-in b (c .choose .ensures) .0, omega (arith, strip-sum _ _ (a .1), a .0 .short), rests-of b .0)
 
 index-at-requires-2 : tie.Need-index-at-requires-2 Inv-loop μ-loop
 index-at-requires-2 c κs =
     let b = c .before .before .before in
     let a = accepted b in
-    (b .before .before .before .before .before .pre .0, omega (arith, strip-sum _ _ (a .2), a .0 .short), rests-of b .1)
+    (patterns-in b (c .before .choose .ensures) .1, omega (arith, strip-sum _ _ (a .2), a .0 .short), rests-of b .1)
 
 -- the index of the kind's pattern is found in both strips, then the places to which the two indices lead
 indices : (c : tie.After-index-at2 Inv-loop μ-loop) → Indices (c .before .before .before .before .before .loop .parity) (c .before .before .choose .result) (c .before .index-at .result) (c .index-at2 .result)
@@ -103,7 +106,7 @@ loop-again c = found (c .before .before) .on (omega arith)
 returns-3 : tie.Need-returns-3 Inv-loop μ-loop
 returns-3 c =
     let p = c .before .before .before .before .before .pre in
-    end (p .2) (p .3) (c .before .loop .inv) (c .loop-test .left)
+    end (p .1) (p .2) (c .before .loop .inv) (c .loop-test .left)
 
 pub compare-spec : {M : Type 1} → statement M
 compare-spec =

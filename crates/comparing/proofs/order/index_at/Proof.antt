@@ -26,7 +26,7 @@ index-of-requires : tie.Need-index-of-requires
 index-of-requires c κs =
     let s = c .before .before .before .before .before in
     let r = c .before .before .reduce .ensures in
-    (s .pre .0, rw (r .1) (fits s), rw (r .1) (s .pre .2))
+    (rw (r .1) (fits s), rw (r .1) (s .pre .2), rw (r .1) (s .pre .0))
 
 returns : tie.Need-returns
 returns c = c .index-of .ensures ∙ ap (index _) (c .before .before .before .reduce .ensures .1)

@@ -19,13 +19,13 @@ returns c =
 
 compare-requires : tie.Need-compare-requires
 compare-requires c κs =
-    let a = accepted-pair _ _ _ (passed (pairNos _ _ _) _ (c .before .before .before .check-pair .ensures) (omega arith)) in
-    (c .before .table .ensures, a .0, a .1, a .2)
+    let a = accepted-pair _ _ _ (passed (pairNos _ _ _) _ (c .before .check-pair .ensures) (omega arith)) in
+    (a .0, a .1, a .2)
 
 returns-2 : tie.Need-returns-2
 unfolding whichAnswer
 returns-2 c =
-    ap (asCompared fine) (c .compare .ensures) ∙ answer-passed asCompared 0 _ (pairNos _ _ _) (passed (pairNos _ _ _) _ (c .before .before .before .before .check-pair .ensures) (omega arith))
+    ap (asCompared fine) (c .compare .ensures) ∙ answer-passed asCompared 0 _ (pairNos _ _ _) (passed (pairNos _ _ _) _ (c .before .before .check-pair .ensures) (omega arith))
 
 pub which-spec : {M : Type 1} → statement M
-which-spec = tie.close (tie.spec (λ c κs. search needs) returns (λ c κs. search needs) compare-requires returns-2)
+which-spec = tie.close (tie.spec (λ c κs. search needs) returns compare-requires returns-2)

@@ -31,10 +31,13 @@ module _ (c : tie.Else1) where
   none-yet : firstOf (stockNos counts) .0 ≡ 0
   none-yet = passed (stockNos counts) _ (c .before .check-stock .ensures) (omega arith)
 
+patterns-of-requires : tie.Need-patterns-of-requires
+patterns-of-requires c κs = accepted (counts c) (none-yet c)
+
 total-of-requires : tie.Need-total-of-requires
 total-of-requires c κs =
     let b = c .before .before in
-    (c .before .table .ensures, accepted (counts b) (none-yet b))
+    (c .before .patterns-of .ensures, accepted (counts b) (none-yet b))
 
 returns-2 : tie.Need-returns-2
 unfolding countAnswer countNos
@@ -54,4 +57,4 @@ returns-3 c =
     ∙ answer-next asCounted 0 _ (stockNos (counts b)) _ (none-yet b)
 
 pub count-spec : {M : Type 1} → statement M
-count-spec = tie.close (tie.spec (λ c κs. search needs) returns (λ c κs. search needs) total-of-requires returns-2 returns-3)
+count-spec = tie.close (tie.spec (λ c κs. search needs) returns patterns-of-requires total-of-requires returns-2 returns-3)

@@ -31,23 +31,28 @@ module _ (c : tie.Else1) where
   abbrev found : List ℕ
   found = getD (dictionary counts) number []
 
-orders-of-requires : tie.Need-orders-of-requires
-orders-of-requires c κs = good (counts c) (number c) (buffer c) (found c) _ (c .before .check-buffer .ensures) (omega arith) .0
+patterns-of-requires : tie.Need-patterns-of-requires
+patterns-of-requires c κs = good (counts c) (number c) (buffer c) (found c) _ (c .before .check-buffer .ensures) (omega arith) .0
+
+total-of-requires : tie.Need-total-of-requires
+total-of-requires c κs =
+    let b = c .before .before in
+    (c .before .patterns-of .ensures, good (counts b) (number b) (buffer b) (found b) _ (b .before .check-buffer .ensures) (omega arith) .0)
 
 -- 7 or 8 refuses
 returns-2 : tie.Need-returns-2
 unfolding dictionaryStripAnswer dictionaryStripAfter
 returns-2 c =
-    let b = c .before .before .before in
+    let b = c .before .before .before .before .before in
     not-held (counts b) (number b) (buffer b) (found b) _ (b .before .check-buffer .ensures) (omega arith) _ (c .before .check-number .ensures) (omega arith)
 
 strip-at-requires : tie.Need-strip-at-requires
 strip-at-requires c κs =
     let h = c .before .before in
-    let b = h .before .before in
+    let b = h .before .before .before .before in
     let g = good (counts b) (number b) (buffer b) (found b) _ (b .before .check-buffer .ensures) (omega arith) in
     let r = in-range (counts b) (number b) (buffer b) (found b) _ (b .before .check-buffer .ensures) (omega arith) _ (h .check-number .ensures) (omega arith) in
-    let e = h .before .orders-of .ensures ∙ many-no (counts b) (r .0) in
+    let e = h .before .total-of .ensures ∙ many-no (counts b) (r .0) in
     (g .0, e, g .1, omega (arith, e, r .1))
 
 returns-3 : tie.Need-returns-3
@@ -55,7 +60,7 @@ unfolding dictionaryStripAnswer dictionaryStripAfter
 returns-3 c =
     let s = c .before .before in
     let h = s .before .before .before in
-    let b = h .before .before in
+    let b = h .before .before .before .before in
     let w = written (counts b) (number b) (buffer b) (found b) _ (b .before .check-buffer .ensures) (omega arith) _ (h .check-number .ensures) (omega arith) in
     (w .0, s .strip-at .ensures ∙ w .1)
 
@@ -66,8 +71,9 @@ dictionary-strip-spec =
     (λ c κs. search needs)
     (λ c. search needs)
     returns
-    orders-of-requires
-    (λ c κs. c .orders-of .ensures)
+    patterns-of-requires
+    total-of-requires
+    (λ c κs. c .total-of .ensures)
     (λ c. search needs)
     returns-2
     strip-at-requires

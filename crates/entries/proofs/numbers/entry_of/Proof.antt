@@ -3,7 +3,7 @@ use Prim.Native.Nat.{_+_, _-_, _*_, _/_, _^_, _<_}
 use mathlib.Core.Path.{_≡_}
 use native.Mathlib.Omega.{arith}
 use lib.ListN.{getD}
-use Rattle.orders.proofs.Parts.{over}
+use Rattle.entries.proofs.Fitting.{over}
 use Rattle.entries.proofs.Tails.{Tail, tail-none, tail-all, Turn, turn}
 use Rattle.entries.proofs.numbers.entry_of.Statement.{statement}
 use Rattle.entries.proofs.numbers.entry_of.Tie as tie
@@ -47,18 +47,18 @@ number-fits : (c : tie.Else1 Inv-loop μ-loop) → let i = c .before .before .be
     l .number + l .orders * c .before .before .lower-kinds .result / (getD (l .seen) (getD (i .before .before .before .before .args .strip .now) (l .i - 1) 0) 0 + 1) < 2 ^ 64
 number-fits c = made (c .before .before .before .before .before) .number-fits _ _ (c .before .grown .ensures) (omega arith) (c .before .before .lower-kinds .ensures)
 
-share-requires : tie.Need-share-requires Inv-loop μ-loop
-share-requires c κs =
+scale-requires : tie.Need-scale-requires Inv-loop μ-loop
+scale-requires c κs =
     let m = made (c .before .before .before .before .before) in
     (omega arith, omega (arith, m .alike-few, m .more-few), omega (arith, c .before .before .lower-kinds .ensures, m .less-few), omega (arith, number-fits c))
 
 add-number : tie.Need-add-number Inv-loop μ-loop
-add-number c = omega (arith, number-fits (c .before), c .share .ensures)
+add-number c = omega (arith, number-fits (c .before), c .scale .ensures)
 
 loop-again : tie.Need-loop-again Inv-loop μ-loop
 loop-again c =
     let b = c .before in
-    made (b .before .before .before .before .before) .next _ _ _ (b .before .grown .ensures) (omega arith) (b .before .before .lower-kinds .ensures) (c .share .ensures)
+    made (b .before .before .before .before .before) .next _ _ _ (b .before .grown .ensures) (omega arith) (b .before .before .lower-kinds .ensures) (c .scale .ensures)
 
 returns-2 : tie.Need-returns-2 Inv-loop μ-loop
 returns-2 c =
@@ -85,7 +85,7 @@ entry-of-spec =
     lower-kinds-requires
     grown-requires
     returns
-    share-requires
+    scale-requires
     add-number
     (λ c. omega (arith, made (c .before .before .before .before .before .before) .kind-few))
     (λ c. made (c .before .before .before .before .before .before) .kind-few)

@@ -42,20 +42,20 @@ module _ (c : tie.At-loop Inv-loop μ-loop) where
   fits : c .before .args .ways * getD (c .before .args .left .now) (c .loop .kind) 0 / c .before .args .n ≤ c .before .args .ways
   fits = omega (arith, share-at, own-fits left (c .before .args .rest) (c .loop .kind) (c .loop .ahead) (c .loop .inv) some less, c .before .pre .5)
 
-share-requires : tie.Need-share-requires Inv-loop μ-loop
-share-requires c κs =
+scale-requires : tie.Need-scale-requires Inv-loop μ-loop
+scale-requires c κs =
     let b = c .before .before in
-    (b .pre .3, b .pre .4, omega (arith, few (c .before), b .pre .4), omega (arith, fits (c .before)))
+    (b .pre .3, omega arith, omega (arith, few (c .before), b .pre .4), omega (arith, fits (c .before)))
 
 returns : tie.Need-returns Inv-loop μ-loop
 returns c =
     let b = c .before .before .before in
-    seek-hit (left b) (b .before .args .rest) (b .loop .kind) (b .loop .ahead) (b .loop .inv) (some b) (less b) (c .before .share .result) (c .before .share .ensures ∙ share-at b) (c .if1 .taken)
+    seek-hit (left b) (b .before .args .rest) (b .loop .kind) (b .loop .ahead) (b .loop .inv) (some b) (less b) (c .before .scale .result) (c .before .scale .ensures ∙ share-at b) (c .if1 .taken)
 
 loop-again : tie.Need-loop-again Inv-loop μ-loop
 loop-again c =
     let b = c .before .before .before in
-    seek-on (left b) (b .before .args .rest) (b .loop .kind) (b .loop .ahead) (b .loop .inv) (some b) (less b) (c .before .share .result) (c .before .share .ensures ∙ share-at b) (c .if1 .left)
+    seek-on (left b) (b .before .args .rest) (b .loop .kind) (b .loop .ahead) (b .loop .inv) (some b) (less b) (c .before .scale .result) (c .before .scale .ensures ∙ share-at b) (c .if1 .left)
 
 pub choose-kind-spec : {M : Type 1} → statement M
 choose-kind-spec =
@@ -66,7 +66,7 @@ choose-kind-spec =
     (λ c. seek-start _ _)
     (λ c. omega (arith, inside c, c .before .pre .1))
     (λ c. omega (arith, inside c, c .before .pre .1))
-    share-requires
+    scale-requires
     (λ c. omega arith)
     returns
     (λ c. omega arith)

@@ -41,8 +41,11 @@ module _ (c : tie.Else1) where
   accepted : IsStock counts × IsStrip counts one × IsStrip counts two
   accepted = accepted-pair counts one two none-yet
 
+patterns-of-requires : tie.Need-patterns-of-requires
+patterns-of-requires c κs = accepted c .0
+
 total-of-requires : tie.Need-total-of-requires
-total-of-requires c κs = (c .before .table .ensures, accepted (c .before .before) .0)
+total-of-requires c κs = (c .before .patterns-of .ensures, accepted (c .before .before) .0)
 
 returns-2 : tie.Need-returns-2
 unfolding distanceAnswer distanceNos
@@ -57,12 +60,12 @@ few c = some-few _ _ (c .before .total-of .ensures) (omega arith)
 number-of-requires : tie.Need-number-of-requires
 number-of-requires c κs =
     let a = accepted (c .before .before .before .before .before) in
-    (c .before .before .before .before .table .ensures, a .0, a .1, few (c .before))
+    (c .before .before .before .before .patterns-of .ensures, a .0, a .1, few (c .before))
 
 number-of-requires-2 : tie.Need-number-of-requires-2
 number-of-requires-2 c κs =
     let a = accepted (c .before .before .before .before .before .before .before) in
-    (c .before .before .before .before .before .before .table .ensures, a .0, a .2, few (c .before .before .before))
+    (c .before .before .before .before .before .before .patterns-of .ensures, a .0, a .2, few (c .before .before .before))
 
 not-many : (c : tie.Else2) → firstOf (manyNo (counts (c .before .before .before .before)) ∷ []) .0 ≡ 0
 unfolding firstOf
@@ -86,7 +89,7 @@ distance-spec =
     (tie.spec
     (λ c κs. search needs)
     returns
-    (λ c κs. search needs)
+    patterns-of-requires
     total-of-requires
     returns-2
     number-of-requires

@@ -30,10 +30,13 @@ module _ (c : tie.Else1) where
   abbrev found : List ℕ
   found = getD (book counts) number []
 
+patterns-of-requires : tie.Need-patterns-of-requires
+patterns-of-requires c κs = good (counts c) (number c) (buffer c) (found c) _ (c .before .check-buffer .ensures) (omega arith) .0
+
 total-of-requires : tie.Need-total-of-requires
 total-of-requires c κs =
     let b = c .before .before in
-    (c .before .table .ensures, good (counts b) (number b) (buffer b) (found b) _ (b .before .check-buffer .ensures) (omega arith) .0)
+    (c .before .patterns-of .ensures, good (counts b) (number b) (buffer b) (found b) _ (b .before .check-buffer .ensures) (omega arith) .0)
 
 -- 7 or 8 refuses
 returns-2 : tie.Need-returns-2
@@ -47,7 +50,7 @@ strip-of-requires c κs =
     let h = c .before .before .before in
     let b = h .before .before .before .before in
     let g = good (counts b) (number b) (buffer b) (found b) _ (b .before .check-buffer .ensures) (omega arith) in
-    (h .before .before .before .table .ensures, g .0, g .1, in-range (counts b) (number b) (buffer b) (found b) _ (b .before .check-buffer .ensures) (omega arith) _ (h .check-number .ensures) (omega arith) .1)
+    (h .before .before .before .patterns-of .ensures, g .0, g .1, in-range (counts b) (number b) (buffer b) (found b) _ (b .before .check-buffer .ensures) (omega arith) _ (h .check-number .ensures) (omega arith) .1)
 
 returns-3 : tie.Need-returns-3
 unfolding stripAnswer stripAfter
@@ -65,7 +68,7 @@ strip-spec =
     (λ c κs. search needs)
     (λ c. search needs)
     returns
-    (λ c κs. search needs)
+    patterns-of-requires
     total-of-requires
     (λ c κs. c .total-of .ensures)
     (λ c. search needs)

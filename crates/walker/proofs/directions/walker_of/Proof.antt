@@ -5,17 +5,17 @@ use mathlib.Core.List.{List}
 use native.Mathlib.Omega.{arith}
 use lib.ListN.{length}
 use borrow.Author.Needs.{needs}
-use Rattle.rules.specs.Book.{reduced}
+use Rattle.rules.specs.Book.{odd, reduced}
 use Rattle.rules.proofs.Index.{rests, index}
 use Rattle.walker.proofs.Building.{Built, start, strip-fits, reduced-fits, others, on, end}
 use Rattle.walker.proofs.directions.walker_of.Statement.{statement}
 use Rattle.walker.proofs.directions.walker_of.Tie as tie
 
 abbrev Inv-loop : tie.InvT-loop
-Inv-loop rows stock strip w₀ word₀ odd₀ below₀ j₀ w word odd below j = (length word ≡ 64) × Built stock strip w odd below j
+Inv-loop stock strip w₀ word₀ odd₀ below₀ j₀ w word odd below j = (length word ≡ 64) × Built stock strip w odd below j
 
 abbrev μ-loop : tie.MeasureT-loop
-μ-loop rows stock strip w₀ word₀ odd₀ below₀ j₀ w word odd below j = length stock - j
+μ-loop stock strip w₀ word₀ odd₀ below₀ j₀ w word odd below j = length stock - j
 
 -- a turn: the strip and its reduced strip fit the word, and below is how many blocks of it are no blocks of the kind
 module _ (c : tie.In-loop Inv-loop μ-loop) where
@@ -29,13 +29,13 @@ module _ (c : tie.In-loop Inv-loop μ-loop) where
   kind = at .loop .j + 1
 
   fits : length strip ≤ 64
-  fits = let p = at .before .before .before .pre in strip-fits _ _ (p .1) (p .2)
+  fits = let p = at .before .before .before .pre in strip-fits _ _ (p .0) (p .1)
 
   within : length (reduced kind strip) ≤ 64
-  within = let p = at .before .before .before .pre in reduced-fits _ _ _ _ _ _ (at .loop .inv .1) (p .1) (p .2) (c .loop-test .taken)
+  within = let p = at .before .before .before .pre in reduced-fits _ _ _ _ _ _ (at .loop .inv .1) (p .0) (p .1) (c .loop-test .taken)
 
   rest : at .loop .below ≡ rests kind (reduced kind strip)
-  rest = let p = at .before .before .before .pre in others _ _ _ _ _ _ (at .loop .inv .1) (p .1) (p .2) (c .loop-test .taken)
+  rest = let p = at .before .before .before .pre in others _ _ _ _ _ _ (at .loop .inv .1) (p .0) (p .1) (c .loop-test .taken)
 
 reduce-requires : tie.Need-reduce-requires Inv-loop μ-loop
 reduce-requires c κs = omega (arith, fits (c .before))
@@ -45,24 +45,24 @@ array-share-prefix-word c =
     let r = c .before .reduce in
     omega (arith, r .ensures .0, r .kept .1 .1 .0, within (c .before .before .before))
 
-slice-aggregate-index-of : tie.Need-slice-aggregate-index-of Inv-loop μ-loop
-slice-aggregate-index-of c =
+slice-aggregate-odd-index-of : tie.Need-slice-aggregate-odd-index-of Inv-loop μ-loop
+slice-aggregate-odd-index-of c =
     let r = c .before .before .reduce .ensures in
     r .0 ∙ sym (ap length (r .1))
 
-index-of-requires : tie.Need-index-of-requires Inv-loop μ-loop
-index-of-requires c κs =
+odd-index-of-requires : tie.Need-odd-index-of-requires Inv-loop μ-loop
+odd-index-of-requires c κs =
     let b = c .before .before .before .before in
     let r = c .before .before .reduce .ensures in
-    (b .before .before .before .before .pre .0, rw (r .1) (within b), rw (r .1) (rest b))
+    rw (r .1) (rest b)
 
 loop-again : tie.Need-loop-again Inv-loop μ-loop
 loop-again c =
-    let b = c .before .before .before .before .before .before in
+    let b = c .before .before .before .before .before in
     let p = b .before .before .before .before .pre in
-    let r = c .before .before .before .before .reduce in (
+    let r = c .before .before .before .reduce in (
       r .kept .1 .1 .0 ∙ b .before .loop .inv .0,
-      on _ _ _ _ _ _ (b .before .loop .inv .1) (p .1) (p .2) (b .loop-test .taken) _ _ _ (r .ensures .0) (c .before .index-of .ensures ∙ ap (index (kind b)) (r .ensures .1)) (c .odd-by .ensures),
+      on _ _ _ _ _ _ (b .before .loop .inv .1) (p .0) (p .1) (b .loop-test .taken) _ _ (r .ensures .0) (c .odd-index-of .ensures ∙ ap (λ (w : List ℕ). odd (index (kind b) w)) (r .ensures .1)),
     )
 
 pub walker-of-spec : {M : Type 1} → statement M
@@ -78,9 +78,8 @@ walker-of-spec =
     (λ c. search needs)
     reduce-requires
     array-share-prefix-word
-    slice-aggregate-index-of
-    index-of-requires
-    (λ c κs. search needs)
+    slice-aggregate-odd-index-of
+    odd-index-of-requires
     (λ c. omega arith)
     loop-again
     (λ c. end _ _ _ _ _ _ (c .before .loop .inv .1) (c .loop-test .left)))

@@ -27,16 +27,16 @@ none-yet c =
 
 walker-of-requires : tie.Need-walker-of-requires
 walker-of-requires c κs =
-    let b = accepted-both _ _ (none-yet (c .before .before)) in
-    (c .before .table .ensures, b .0, b .1)
+    let b = accepted-both _ _ (none-yet c) in
+    (b .0, b .1)
 
 returns-2 : tie.Need-returns-2
 unfolding openAnswer
 returns-2 c =
-    let b = c .before .before .before in
+    let b = c .before in
     let a = b .before .before .before .before .args in
     let k = checkNos (a .stock .now) (a .strip .now) in
     ap (asOpened fine) (c .walker-of .ensures) ∙ answer-passed asOpened allForward _ k (none-yet b)
 
 pub open-spec : {M : Type 1} → statement M
-open-spec = tie.close (tie.spec (λ c κs. search needs) returns (λ c κs. search needs) walker-of-requires returns-2)
+open-spec = tie.close (tie.spec (λ c κs. search needs) returns walker-of-requires returns-2)

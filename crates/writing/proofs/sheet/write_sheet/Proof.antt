@@ -53,7 +53,7 @@ module _ (c : tie.Else2) where
 -- the strip with its walker
 module _ (c : tie.After-walker-of) where
   abbrev roomy : tie.Else2
-  roomy = c .before .before .before
+  roomy = c .before
 
   ready : let a = begun (checked roomy) .args in Checked (a .stock .now) (a .strip .now) (c .walker-of .result)
   ready = let b = both (checked roomy) in record { stock = b .0; strip = b .1; walker = c .walker-of .ensures }
@@ -102,8 +102,7 @@ write-sheet-spec =
     returns
     (λ c κs. search needs)
     returns-2
-    (λ c κs. search needs)
-    (λ c κs. let b = both (checked (c .before .before)) in (c .before .table .ensures, b .0, b .1))
+    (λ c κs. let b = both (checked c) in (b .0, b .1))
     (λ c κs. short (checked (roomy c)))
     (λ c. let b = checked (roomy (walker c)) in omega (arith, short b, padded-long 64 (begun b .args .strip .now) (short b), ap length (c .padded-strip .ensures)))
     (λ c. sym (ap length (own (c .before))))

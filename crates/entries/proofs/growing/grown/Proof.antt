@@ -1,0 +1,71 @@
+-- `entries::growing::grown` meets its contract.
+use Prim.Native.Nat.{_+_, _*_, _/_, _%_, _≤_}
+use native.Mathlib.Omega.{arith}
+use borrow.Author.Needs.{needs}
+use Rattle.choose.proofs.Fractions.{rest-at-most}
+use Rattle.entries.proofs.Fitting.{rest-short, safe, under, beyond, grows}
+use Rattle.entries.proofs.growing.grown.Statement.{statement}
+use Rattle.entries.proofs.growing.grown.Tie as tie
+
+mul-rest : tie.Need-mul-rest
+mul-rest c =
+    let a = c .args in
+    omega (arith, rest-at-most (a .orders) (a .n) (a .alike) (c .pre .0) 64 (omega arith) (c .pre .2))
+
+-- a small quotient
+module _ (c : tie.Then1) where
+  small : let a = c .before .args in a .orders / a .alike * a .n + a .orders % a .alike * a .n / a .alike ≤ 18446744073709551615
+  small =
+      let a = c .before .args in
+      let p = c .before .pre in
+      safe (a .orders) (a .n) (a .alike) (p .0) (p .1) (p .2) (omega arith)
+
+returns : tie.Need-returns
+returns c =
+    let a = c .before .args in
+    let p = c .before .pre in
+    grows (a .orders) (a .n) (a .alike) (p .0) (p .1) (p .2) (small c)
+
+sub-if2 : tie.Need-sub-if2
+sub-if2 c =
+    let a = c .before .args in
+    let p = c .before .pre in
+    omega (arith, rest-short (a .orders) (a .n) (a .alike) (p .0) (p .1) (p .2))
+
+returns-2 : tie.Need-returns-2
+returns-2 c =
+    let a = c .before .before .args in
+    let p = c .before .before .pre in
+    beyond (a .orders) (a .n) (a .alike) (p .0) (p .1) (p .2) (c .if2 .taken)
+
+-- a large quotient that was compared
+module _ (c : tie.Else2) where
+  compared : let a = c .before .before .args in a .orders / a .alike * a .n + a .orders % a .alike * a .n / a .alike ≤ 18446744073709551615
+  compared =
+      let a = c .before .before .args in
+      let p = c .before .before .pre in
+      under (a .orders) (a .n) (a .alike) (p .0) (p .1) (p .2) (c .if2 .left)
+
+returns-3 : tie.Need-returns-3
+returns-3 c =
+    let a = c .before .before .args in
+    let p = c .before .before .pre in
+    grows (a .orders) (a .n) (a .alike) (p .0) (p .1) (p .2) (compared c)
+
+pub grown-spec : {M : Type 1} → statement M
+grown-spec =
+    tie.close
+    (tie.spec
+    (λ c. search needs)
+    (λ c. search needs)
+    mul-rest
+    (λ c. search needs)
+    (λ c. omega (arith, small c))
+    (λ c. omega (arith, small c))
+    returns
+    sub-if2
+    (λ c. search needs)
+    returns-2
+    (λ c. omega (arith, compared c))
+    (λ c. omega (arith, compared c))
+    returns-3)

@@ -1,0 +1,5 @@
+-- Proofs: nobody needs to read these to know what holds.
+mod Choices
+mod Enlarging
+mod FromRight
+mod InPlace

@@ -1,3 +1,0 @@
--- Proofs: nobody needs to read these to know what holds.
-pub mod Parts
-mod Growing
