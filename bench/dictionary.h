@@ -38,7 +38,7 @@ CALLED bool checked_step_by_dictionary(const uint16_t *stock, size_t kinds, uint
 /* whole * part / n, where only the quotient has to fit. */
 static inline uint64_t share(uint64_t whole, uint64_t part, uint64_t n)
 {
-    return whole / n * part + whole % n * part / n;
+    return whole >> 52 == 0 ? whole * part / n : whole / n * part + whole % n * part / n;
 }
 
 /* From the last block to the first: of the blocks behind, their orders and how many of these come before theirs. */

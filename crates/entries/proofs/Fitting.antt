@@ -2,7 +2,7 @@
 use Prim.Native.Nat.{ℕ, suc, _+_, _-_, _*_, _/_, _%_, _≤_, _<_, _^_}
 use mathlib.Core.Path.{_≡_, sym, ap, _∙_}
 use native.Mathlib.Decide.{decLt}
-use native.Mathlib.Nat.{mod-lt, mul-le-mul, mul-lt-mul-of-pos-right, div-lt-iff-lt-mul, le-div-iff-mul-le, mul-div-mul-right}
+use native.Mathlib.Nat.{mod-lt, div-le-self, mul-le-mul, mul-lt-mul-of-pos-right, div-lt-iff-lt-mul, le-div-iff-mul-le, mul-div-mul-right}
 use native.Mathlib.Omega.{arith}
 use borrow.Author.Tests.{le-leb, lt-leb}
 use Rattle.choose.proofs.Fractions.{parts}
@@ -48,9 +48,12 @@ module _ (orders n alike : ℕ) (some : 0 < alike) (few : alike ≤ n) (short : 
   pub rest-short : rest < n
   rest-short = div-lt-iff-lt-mul {k = alike} some .1 (omega (arith, mul-lt-mul-of-pos-right {m = orders % alike} {n = alike} {k = n} (mod-lt orders {m = alike} some) (omega arith)))
 
-  -- the product fits where the quotient is small, or where it is compared
-  pub safe : each ≤ 288230376151711743 → each * n + rest ≤ 18446744073709551615
-  safe h = omega (arith, rest-short, mul-le-mul {n₁ = each} {m₁ = n} {n₂ = 288230376151711743} {m₂ = 64} h short)
+  -- the product fits where the orders are few, or where it is compared
+  pub safe : orders ≤ 288230376151711743 → orders * n ≤ 18446744073709551615
+  safe h = omega (arith, mul-le-mul {n₁ = orders} {m₁ = n} {n₂ = 288230376151711743} {m₂ = 64} h short)
+
+  pub safe-grows : orders ≤ 288230376151711743 → orders * n / alike ≡ fitting (orders * n / alike)
+  safe-grows h = fits (orders * n / alike) (omega (arith, safe h, div-le-self (orders * n) alike))
 
   pub under : each ≤ (18446744073709551615 - rest) / n → each * n + rest ≤ 18446744073709551615
   under h = omega (arith, rest-short, le-div-iff-mul-le {k = n} (omega arith) .0 h)

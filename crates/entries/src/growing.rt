@@ -14,11 +14,11 @@ pub fn grown(orders: u64, n: u64, alike: u64) -> u64
     requires { ⌜ (0 < alike) × (alike ≤ n) × (n ≤ 64) ⌝ }
     ensures { λ r. ⌜ r ≡ fitting (orders * n / alike) ⌝ }
 {
+    if orders <= SAFE {
+        return orders * n / alike;
+    }
     let each = orders / alike;
     let rest = orders % alike * n / alike;
-    if each <= SAFE {
-        return each * n + rest;
-    }
     if (MOST - rest) / n < each {
         return 0;
     }

@@ -1,5 +1,5 @@
 -- Proofs. A pattern laid in place from the right end of the word to the left: the last places are laid, and a places and b blocks are left.
-use Prim.Native.Nat.{ℕ, zero, suc, _+_, _-_, _≤_, _<_}
+use Prim.Native.Nat.{ℕ, zero, suc, _-_, _≤_, _<_}
 use mathlib.Core.Path.{_≡_, refl, sym, ap, _∙_}
 use mathlib.Core.Bool.{Bool, false, not}
 use mathlib.Core.List.{List, [], _∷_, _++_, reverse, append-assoc, append-nil}

@@ -2,7 +2,7 @@
 use Prim.Native.Nat.{ℕ, suc, _+_, _-_, _≤_, _<_}
 use mathlib.Core.Path.{_≡_, refl, sym, ap, _∙_}
 use mathlib.Core.Bool.{Bool, true, false, not, Bool·beq}
-use mathlib.Core.List.{List, [], _∷_, reverse}
+use mathlib.Core.List.{List, _∷_, reverse}
 use native.Mathlib.Omega.{arith}
 use borrow.Author.Tests.{eq-eqb, ne-eqb}
 use lib.ListN.{length, getD, take}
@@ -105,7 +105,7 @@ module _ {j : ℕ} {w : List ℕ} {a b : ℕ} {turned so-far : Bool} (s : FromEn
     rest-R : b - 1 ≡ rests j (take a w)
     rest-R = omega (arith, one-less, rests-turned j (take a w))
 
--- ---- the same in the terms of the loop, which has taken 1 from a, and many says whether C(a - 1, b) is odd
+-- ---- the same in the terms of the loop, which has taken 1 from a, and odd-in-k says whether C(a - 1, b) is odd
 
 module _ {j : ℕ} {w : List ℕ} {a b : ℕ} {turned so-far : Bool} (s : FromEnd j w a b turned so-far) (h : b < a) where
   e : a ≡ suc (a - 1)
@@ -115,7 +115,7 @@ module _ {j : ℕ} {w : List ℕ} {a b : ℕ} {turned so-far : Bool} (s : FromEn
   unfolding face
   on-K k t = rw t (record { left = omega (arith, s .left); rest = rest-K (rw e at s) k; parity = rw t at (parity-K (rw e at s) k) })
 
-  pub on-turned : getD w (a - 1) 0 ≡ j → turned ≡ true → {many : Bool} → many ≡ odd (binom (a - 1) b) → FromEnd j w (a - 1) b false (Bool·beq so-far many)
+  pub on-turned : getD w (a - 1) 0 ≡ j → turned ≡ true → {odd-in-k : Bool} → odd-in-k ≡ odd (binom (a - 1) b) → FromEnd j w (a - 1) b false (Bool·beq so-far odd-in-k)
   unfolding face
   on-turned k t is = record {
     left = omega (arith, s .left);
@@ -123,7 +123,7 @@ module _ {j : ℕ} {w : List ℕ} {a b : ℕ} {turned so-far : Bool} (s : FromEn
     parity = rw is ((rw t at (parity-K (rw e at s) k)) ∙ ap (flip so-far) (odd-back (binom (a - 1) b) _ (below-K (rw e at s) k)) ∙ alike so-far (odd (binom (a - 1) b)) _);
   }
 
-  pub on-R : (getD w (a - 1) 0 ≡ j → ⊥) → {many : Bool} → many ≡ odd (binom (a - 1) b) → FromEnd j w (a - 1) (b - 1) (not turned) (not (Bool·beq so-far many))
+  pub on-R : (getD w (a - 1) 0 ≡ j → ⊥) → {odd-in-k : Bool} → odd-in-k ≡ odd (binom (a - 1) b) → FromEnd j w (a - 1) (b - 1) (not turned) (not (Bool·beq so-far odd-in-k))
   on-R k is = record {
     left = omega (arith, s .left);
     rest = rest-R (rw e at s) k;

@@ -1,6 +1,6 @@
 -- Proofs. The index of a word while letters are taken off its end: a letters and b letters R are left, with `all` patterns that begin at `from`.
-use Prim.Native.Nat.{ℕ, suc, _+_, _-_, _≤_, _<_}
-use mathlib.Core.Path.{_≡_, refl, sym, ap, _∙_}
+use Prim.Native.Nat.{ℕ, _+_, _-_, _≤_, _<_}
+use mathlib.Core.Path.{_≡_, sym, ap, _∙_}
 use mathlib.Core.Bool.{Bool, true, false, not}
 use mathlib.Core.List.{List}
 use native.Mathlib.Nat.{zero-add}
@@ -8,7 +8,7 @@ use native.Mathlib.Omega.{arith}
 use lib.ListN.{length, getD, take}
 use lib.Seq.{take-all, take-take, getD-take, length-take-le}
 use Rattle.rules.specs.Stock.{binom}
-use Rattle.rules.proofs.Listed.{face, face-lt, face-face}
+use Rattle.rules.proofs.Listed.{face}
 use Rattle.rules.proofs.Turned.{binom-zero}
 use Rattle.rules.proofs.Patterns.{binom-self}
 use Rattle.rules.proofs.Index.{index, rests, rests-le, index-below, rests-K, index-K, InKR, in-KR, InRR, in-RR}

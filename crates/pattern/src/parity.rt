@@ -16,14 +16,14 @@ pub fn odd_index_of(word: &[u8], kind: u8, others: usize) -> bool
     let mut odd = false;
     while b < a {
         a -= 1;
-        let many = odd_choose(a, b);
+        let odd_in_k = odd_choose(a, b);
         if word[a] == kind {
             if turned {
-                odd = odd == many;
+                odd = odd == odd_in_k;
                 turned = false;
             }
         } else {
-            odd = odd != many;
+            odd = odd != odd_in_k;
             b -= 1;
             turned = !turned;
         }

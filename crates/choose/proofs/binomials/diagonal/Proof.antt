@@ -1,9 +1,8 @@
 -- `choose::binomials::diagonal` meets its contract. The measure is the steps that are left.
 use Prim.Native.Nat.{_+_, _-_, _%_, _≤_}
-use mathlib.Core.Path.{_≡_, _∙_}
+use mathlib.Core.Path.{_≡_}
 use native.Mathlib.Nat.{mul-le-mul-right}
 use native.Mathlib.Omega.{arith}
-use borrow.Author.Needs.{needs}
 use Rattle.rules.specs.Stock.{binom}
 use Rattle.choose.proofs.Pascal.{begins}
 use Rattle.choose.proofs.binomials.diagonal.Statement.{statement}

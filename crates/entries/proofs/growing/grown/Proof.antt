@@ -3,28 +3,29 @@ use Prim.Native.Nat.{_+_, _*_, _/_, _%_, _≤_}
 use native.Mathlib.Omega.{arith}
 use borrow.Author.Needs.{needs}
 use Rattle.choose.proofs.Fractions.{rest-at-most}
-use Rattle.entries.proofs.Fitting.{rest-short, safe, under, beyond, grows}
+use Rattle.entries.proofs.Fitting.{rest-short, safe, safe-grows, under, beyond, grows}
 use Rattle.entries.proofs.growing.grown.Statement.{statement}
 use Rattle.entries.proofs.growing.grown.Tie as tie
 
-mul-rest : tie.Need-mul-rest
-mul-rest c =
-    let a = c .args in
-    omega (arith, rest-at-most (a .orders) (a .n) (a .alike) (c .pre .0) 64 (omega arith) (c .pre .2))
-
--- a small quotient
-module _ (c : tie.Then1) where
-  small : let a = c .before .args in a .orders / a .alike * a .n + a .orders % a .alike * a .n / a .alike ≤ 18446744073709551615
-  small =
-      let a = c .before .args in
-      let p = c .before .pre in
-      safe (a .orders) (a .n) (a .alike) (p .0) (p .1) (p .2) (omega arith)
+-- few orders
+mul-result : tie.Need-mul-result
+mul-result c =
+    let a = c .before .args in
+    let p = c .before .pre in
+    omega (arith, safe (a .orders) (a .n) (a .alike) (p .0) (p .1) (p .2) (omega arith))
 
 returns : tie.Need-returns
 returns c =
     let a = c .before .args in
     let p = c .before .pre in
-    grows (a .orders) (a .n) (a .alike) (p .0) (p .1) (p .2) (small c)
+    safe-grows (a .orders) (a .n) (a .alike) (p .0) (p .1) (p .2) (omega arith)
+
+-- many
+mul-rest : tie.Need-mul-rest
+mul-rest c =
+    let a = c .before .args in
+    let p = c .before .pre in
+    omega (arith, rest-at-most (a .orders) (a .n) (a .alike) (p .0) 64 (omega arith) (p .2))
 
 sub-if2 : tie.Need-sub-if2
 sub-if2 c =
@@ -38,7 +39,7 @@ returns-2 c =
     let p = c .before .before .pre in
     beyond (a .orders) (a .n) (a .alike) (p .0) (p .1) (p .2) (c .if2 .taken)
 
--- a large quotient that was compared
+-- many that were compared
 module _ (c : tie.Else2) where
   compared : let a = c .before .before .args in a .orders / a .alike * a .n + a .orders % a .alike * a .n / a .alike ≤ 18446744073709551615
   compared =
@@ -56,13 +57,13 @@ pub grown-spec : {M : Type 1} → statement M
 grown-spec =
     tie.close
     (tie.spec
+    mul-result
+    (λ c. search needs)
+    returns
     (λ c. search needs)
     (λ c. search needs)
     mul-rest
     (λ c. search needs)
-    (λ c. omega (arith, small c))
-    (λ c. omega (arith, small c))
-    returns
     sub-if2
     (λ c. search needs)
     returns-2

@@ -1,5 +1,4 @@
 -- `numbering::strips::indices_of` meets its contract. The measure is the number of kinds that are left.
-use Prim.Native.Nat.{_-_}
 use mathlib.Core.List.{[]}
 use native.Mathlib.Nat.{mod-lt}
 use native.Mathlib.Omega.{arith}

@@ -1,9 +1,7 @@
 -- `pattern::index::index_of` meets its contract. The measure is the number of letters that are left.
 use Prim.Native.Nat.{_+_, _^_, _≤_, _<_}
-use mathlib.Core.Path.{_≡_}
 use native.Mathlib.Omega.{arith}
 use lib.ListN.{length}
-use Rattle.rules.specs.Stock.{binom}
 use Rattle.choose.proofs.Pascal.{binom-at-most}
 use Rattle.pattern.proofs.Narrowing.{Narrowed, start, end-K, end-R, k-in-all, kr-in-all, on-K, on-KR, more-R, rr-in-all, on-RR}
 use Rattle.pattern.proofs.index.index_of.Statement.{statement}
