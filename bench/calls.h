@@ -4,7 +4,7 @@
 
 #include "work.h"
 
-enum { ROUNDS = 9 };
+enum { ROUNDS = 40 };
 
 /* ---- one call: on the strip or the number at i, or on where those before it have come to from the first strip */
 
