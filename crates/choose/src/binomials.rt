@@ -1,18 +1,16 @@
 // One binomial: the number itself, and whether it is odd.
-use crate::scaling::scale;
+use crate::scaling::scale_twice;
 ghost use Prim.Native.Nat.{_+_, _≤_};
 ghost use mathlib.Core.Path.{_≡_};
 ghost use Rattle.rules.specs.Stock.{binom};
 ghost use Rattle.rules.specs.Book.{odd};
 
-// Two steps along a diagonal of Pascal's triangle: from C(d + i, i) to C(d + i + 2, i + 2), by one fraction.
+// Two steps along a diagonal of Pascal's triangle: from C(d + i, i) to C(d + i + 2, i + 2), by two fractions.
 fn two_steps(c: u64, d: usize, i: usize) -> u64
     requires { ⌜ (c ≡ binom (d + i) i) × (d + (i + 2) ≤ 64) ⌝ }
     ensures { λ r. ⌜ r ≡ binom (d + (i + 2)) (i + 2) ⌝ }
 {
-    let x = (d + i + 1) * (d + i + 2);
-    let y = (i + 1) * (i + 2);
-    scale(c, x as u64, y as u64)
+    scale_twice(c, d + i + 1, d + i + 2, i + 1, i + 2)
 }
 
 // C(d + m, m): from C(d, 0), which is 1, or where m is odd from C(d + 1, 1), which is d + 1.

@@ -1,6 +1,7 @@
 // Of the c words of a letters with b letters R, as many as C(a, b): how many end in K, in K R and in R R. Each takes one or two letters off the end, and
 // is a fraction of c.
 use crate::scaling::scale;
+use crate::scaling::scale_twice;
 ghost use Prim.Native.Nat.{_-_, _≤_, _<_};
 ghost use mathlib.Core.Path.{_≡_};
 ghost use Rattle.rules.specs.Stock.{binom};
@@ -19,9 +20,7 @@ pub fn ends_in_kr(c: u64, a: usize, b: usize) -> u64
     requires { ⌜ (c ≡ binom a b) × (0 < b) × (b < a) × (a ≤ 64) ⌝ }
     ensures { λ r. ⌜ r ≡ binom (a - 2) (b - 1) ⌝ }
 {
-    let x = b * (a - b);
-    let y = a * (a - 1);
-    scale(c, x as u64, y as u64)
+    scale_twice(c, b, a - b, a, a - 1)
 }
 
 // Those that end in R R are C(a - 2, b - 2).
@@ -29,7 +28,5 @@ pub fn ends_in_rr(c: u64, a: usize, b: usize) -> u64
     requires { ⌜ (c ≡ binom a b) × (2 ≤ b) × (b ≤ a) × (a ≤ 64) ⌝ }
     ensures { λ r. ⌜ r ≡ binom (a - 2) (b - 2) ⌝ }
 {
-    let x = b * (b - 1);
-    let y = a * (a - 1);
-    scale(c, x as u64, y as u64)
+    scale_twice(c, b, b - 1, a, a - 1)
 }

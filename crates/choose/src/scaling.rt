@@ -17,3 +17,13 @@ pub fn scale(c: u64, x: u64, d: u64) -> u64
     let more = c % d * x / d;
     each * x + more
 }
+
+// By two fractions at once, c * (x * y) / (d * e), where each of the four numbers is at most 64.
+pub fn scale_twice(c: u64, x: usize, y: usize, d: usize, e: usize) -> u64
+    requires { ⌜ (x ≤ 64) × (y ≤ 64) × (0 < d) × (d ≤ 64) × (0 < e) × (e ≤ 64) × (c * (x * y) / (d * e) < 2 ^ 64) ⌝ }
+    ensures { λ r. ⌜ r ≡ c * (x * y) / (d * e) ⌝ }
+{
+    let factor = x * y;
+    let divisor = d * e;
+    scale(c, factor as u64, divisor as u64)
+}
