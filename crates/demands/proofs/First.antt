@@ -86,6 +86,11 @@ use Rattle.reading.specs.Reading.{readNos, readAnswer}
 use Rattle.reading.proofs.Theorems.{refused-stays}
 use Rattle.reading.proofs.reader.read_sheet.Kinds as reading
 use Rattle.reading.proofs.reader.read_sheet.Reads as reading-reads
+use Rattle.rebuilding.specs.declared.Rebuilt.{Rebuilt}
+use Rattle.rebuilding.specs.Rebuilding.{rebuildNos, rebuildAnswer}
+use Rattle.rebuilding.proofs.Theorems.{refused-stays as rebuild-refused-stays}
+use Rattle.rebuilding.proofs.rebuild.rebuild.Kinds as rebuild
+use Rattle.rebuilding.proofs.rebuild.rebuild.Reads as rebuild-reads
 
 -- ---- Count: 1, 2, 3, 7
 
@@ -217,3 +222,10 @@ pub read-sheet-refuses : (κs : Lfts 2) (a : Dens κs reading.ps) (r : Readout) 
     → Refuses (readNos (a .0 .now) (a .1 .0 .now)) (r .refusal) ((r .moves ≡ 0) × (s .1 .0 .now ≡ a .1 .0 .now))
 unfolding readAnswer
 read-sheet-refuses κs a r s h = record { named = ap (λ (r : Readout). r .refusal) (h .0); left = refused-stays κs a r s h }
+
+-- ---- rebuilding a sheet: 11 at 0 where it has under 82 bytes; then as reading, without 4, for the stock and the strip; then 13. The second buffer stays
+
+pub rebuild-refuses : (κs : Lfts 2) (a : Dens κs rebuild.ps) (r : Rebuilt) (s : AtExit (endedOf 2 rebuild.ps rebuild.r) κs) → rebuild-reads.Post κs a r s
+    → Refuses (rebuildNos (a .0 .now) (a .1 .0 .now)) (r .refusal) ((r .moves ≡ 0) × (r .differing ≡ 0) × (r .first ≡ 0) × (s .1 .0 .now ≡ a .1 .0 .now))
+unfolding rebuildAnswer
+rebuild-refuses κs a r s h = record { named = ap (λ (r : Rebuilt). r .refusal) (h .0); left = rebuild-refused-stays κs a r s h }

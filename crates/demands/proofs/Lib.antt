@@ -5,4 +5,5 @@ pub mod Third
 pub mod Drawers
 pub mod Pedal
 pub mod SoldOut
+pub mod Coffee
 pub mod Outcomes

@@ -15,6 +15,7 @@ use Rattle.running.proofs.Theorems.{run-one-outcome}
 use Rattle.papers.proofs.Theorems.{one-outcome as same-paper-one-outcome}
 use Rattle.writing.proofs.Theorems.{one-outcome as write-sheet-one-outcome}
 use Rattle.reading.proofs.Theorems.{one-outcome as read-sheet-one-outcome, one-buffer as read-sheet-one-buffer}
+use Rattle.rebuilding.proofs.Theorems.{one-outcome as rebuild-one-outcome}
 use Rattle.exports.proofs.nelfrupi_count.Kinds as count
 use Rattle.exports.proofs.nelfrupi_count.Reads as count-reads
 use Rattle.exports.proofs.nelfrupi_first.Kinds as first
@@ -49,6 +50,8 @@ use Rattle.exports.proofs.nelfrupi_write_sheet.Kinds as write-sheet
 use Rattle.exports.proofs.nelfrupi_write_sheet.Reads as write-sheet-reads
 use Rattle.exports.proofs.nelfrupi_read_sheet.Kinds as read-sheet
 use Rattle.exports.proofs.nelfrupi_read_sheet.Reads as read-sheet-reads
+use Rattle.exports.proofs.nelfrupi_rebuild.Kinds as rebuild
+use Rattle.exports.proofs.nelfrupi_rebuild.Reads as rebuild-reads
 
 pub count-one-outcome-for-c : OneAnswer 1 count.ps count.r count-reads.Post
 count-one-outcome-for-c = count-one-outcome
@@ -100,3 +103,6 @@ write-sheet-one-outcome-for-c = write-sheet-one-outcome
 
 pub read-sheet-one-outcome-for-c : OneOutcome 2 read-sheet.ps read-sheet.r (λ κs s. s .1 .0 .now) read-sheet-reads.Post
 read-sheet-one-outcome-for-c κs a x y s t h k = (read-sheet-one-outcome κs a x y s t h k, read-sheet-one-buffer κs a x y s t h k)
+
+pub rebuild-one-outcome-for-c : OneOutcome 2 rebuild.ps rebuild.r (λ κs s. s .1 .0 .now) rebuild-reads.Post
+rebuild-one-outcome-for-c = rebuild-one-outcome

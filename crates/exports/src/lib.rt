@@ -21,6 +21,8 @@ use numbering::strip::strip;
 use papers::Asked;
 use papers::same_paper;
 use reading::reader::read_sheet;
+use rebuilding::Rebuilt;
+use rebuilding::rebuild::rebuild;
 use running::run::Ran;
 use running::run::run;
 use sheets::Written;
@@ -44,6 +46,7 @@ ghost use Rattle.running.specs.Answers.{runAnswer, runStrip, runList};
 ghost use Rattle.papers.specs.Papers.{samePaperAnswer};
 ghost use Rattle.sheets.specs.Writing.{writeAnswer, writeSheet};
 ghost use Rattle.reading.specs.Reading.{readAnswer, readBuffer};
+ghost use Rattle.rebuilding.specs.Rebuilding.{rebuildAnswer, rebuildOut};
 
 #[no_mangle]
 pub extern "C" fn nelfrupi_count(stock: &[u16]) -> Counted
@@ -182,4 +185,11 @@ pub extern "C" fn nelfrupi_read_sheet(sheet: &[u8], buffer: &mut [u8]) -> Readou
     ensures { λ r. ⌜ (r ≡ readAnswer (now (sheet .entry)) (now (buffer .entry))) × (now (buffer .exit) ≡ readBuffer (now (sheet .entry)) (now (buffer .entry))) ⌝ }
 {
     read_sheet(sheet, buffer)
+}
+
+#[no_mangle]
+pub extern "C" fn nelfrupi_rebuild(sheet: &[u8], out: &mut [u8]) -> Rebuilt
+    ensures { λ r. ⌜ (r ≡ rebuildAnswer (now (sheet .entry)) (now (out .entry))) × (now (out .exit) ≡ rebuildOut (now (sheet .entry)) (now (out .entry))) ⌝ }
+{
+    rebuild(sheet, out)
 }

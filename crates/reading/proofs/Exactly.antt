@@ -15,14 +15,12 @@ use Rattle.rules.proofs.Strips.{strip-sum}
 use Rattle.walking.specs.Answers.{onward, left}
 use Rattle.sheets.specs.Sheets.{padded, stockRecord, stripRecord, moveRecords, sheetOf}
 use Rattle.sheets.proofs.Bodies.{padded-long}
-use Rattle.records.specs.Records.{sheetStock, stripBody, sheetStrip, recordNo, paddingNo}
-use Rattle.records.specs.Opened.{stockAt, stripAt, openingNos}
+use Rattle.records.specs.Records.{sheetStock, stripBody, sheetStrip, recordNo, paddingNo, firstTwoNos}
 use Rattle.records.proofs.BodyLaws.{zeros, record-other, record-there}
-use Rattle.records.proofs.Beginning.{opening-stock, opening-strip, opening-body}
+use Rattle.records.proofs.FirstTwo.{first-two-long, first-two-stock, first-two-strip}
 use Rattle.reading.specs.Reading.{followed, readNos}
-use Rattle.reading.proofs.Joined.{read-rows}
 use Rattle.reading.proofs.Padding.{used-padded, padded-used, padded-front, padded-rest, zeros-zeros, padded-split}
-use Rattle.reading.proofs.MoveRecords.{Rebuilt, rebuilt, follow-written}
+use Rattle.reading.proofs.MoveRecords.{Traced, traced, follow-written}
 use Rattle.reading.proofs.Shape.{shaped, long-enough, first-body, second-kind, second-body, left-over, reshaped}
 
 -- ---- a sheet that is written is read
@@ -72,21 +70,27 @@ module _ (counts s : List ℕ) (k : IsStock counts) (h : IsStrip counts s) (c : 
   second-back : recordNo 2 64 17 (sheetOf counts s c) ≡ fine
   second-back = sym (record-there 2 64 17 (sheetOf counts s c) (rw (sheet-shaped counts s c) (second-kind a b m la lb)) (rw (sheet-shaped counts s c) (omega (arith, long-enough a b m la lb))))
 
+  own-back : firstOf (strangerNo counts s ∷ amountNo counts s ∷ []) ≡ fine
+  unfolding stripNos
+  own-back = length-right counts s (strangerNo counts s ∷ amountNo counts s ∷ []) long ∙ accepted-strip-back counts s h
+
+  -- its first two records refuse nothing
+  pub first-two-back : firstOf (firstTwoNos (sheetOf counts s c)) ≡ fine
+  unfolding firstTwoNos firstOf
+  first-two-back =
+      let own = strangerNo counts s ∷ amountNo counts s ∷ [] in
+      rw (first-back, stock-back, second-back, strip-back, padding-back)
+      (passed-first (stockNos counts) (fine ∷ (own ++ (fine ∷ []))) (ap (λ (r : No). r .0) (accepted-back counts k)) ∙ passed-first own (fine ∷ []) (ap (λ (r : No). r .0) own-back))
+
   module _ (l : c ≤ left counts s) where
     pub followed-back : followed (sheetOf counts s c) ≡ record { no = fine; moves = c; strip = onward counts s c }
     unfolding followed
     followed-back = rw (stock-back, strip-back, sheet-shaped counts s c, left-over a b m la lb) (follow-written counts c s h l 82)
 
-    own-back : firstOf (strangerNo counts s ∷ amountNo counts s ∷ []) ≡ fine
-    unfolding stripNos
-    own-back = length-right counts s (strangerNo counts s ∷ amountNo counts s ∷ []) long ∙ accepted-strip-back counts s h
-
     pub none-back : (buffer : List ℕ) → 64 ≤ length buffer → firstOf (readNos (sheetOf counts s c) buffer) ≡ fine
     unfolding readNos firstOf
     none-back buffer room =
-        let own = strangerNo counts s ∷ amountNo counts s ∷ [] in
-        rw (le-ltb (length buffer) 64 room, first-back, stock-back, second-back, strip-back, padding-back, followed-back)
-        (passed-first (stockNos counts) (fine ∷ (own ++ (fine ∷ fine ∷ []))) (ap (λ (r : No). r .0) (accepted-back counts k)) ∙ passed-first own (fine ∷ fine ∷ []) (ap (λ (r : No). r .0) own-back))
+        rw (le-ltb (length buffer) 64 room, followed-back) (passed-first (firstTwoNos (sheetOf counts s c)) (fine ∷ []) (ap (λ (r : No). r .0) first-two-back))
 
 -- ---- a sheet that is read is one that is written
 
@@ -112,39 +116,38 @@ module _ (sheet buffer : List ℕ) (z : firstOf (readNos sheet buffer) .0 ≡ 0)
     pub end : followed sheet .no .0 ≡ 0
 
   rows : Rows
-  unfolding readNos paddingNo
+  unfolding readNos firstTwoNos paddingNo
   rows =
       let four = passed-head _ _ z in
-      let one = passed-head _ _ (four .1) in
+      let both = passed-both (firstTwoNos sheet) (followed sheet .no ∷ []) (four .1) in
+      let one = passed-head _ _ (both .0) in
       let two = passed-head _ _ (passed-both (stockNos counts) _ (one .1) .1) in
       let five = passed-head _ _ (two .1) in
       let six = passed-head _ _ (five .1) in
-      let pad = passed-head _ _ (six .1) in
       record {
         room = ltb-false _ _ (when-passed 3 0 _ (four .0));
         first = record-kind 1 16 0 sheet (one .0);
         second = record-kind 2 64 17 sheet (two .0);
-        padding = not-false _ (when-passed 10 17 _ (pad .0));
-        end = passed-head _ _ (pad .1) .0;
+        padding = not-false _ (when-passed 10 17 _ (passed-head _ _ (six .1) .0));
+        end = passed-head _ _ (both .1) .0;
       }
 
-  none : firstOf (openingNos 0 sheet) .0 ≡ 0
-  none = passed-both (openingNos 0 sheet) (followed sheet .no ∷ []) (passed-head _ _ (rw (read-rows sheet buffer) at z) .1) .0
+  none : firstOf (firstTwoNos sheet) .0 ≡ 0
+  unfolding readNos
+  none = passed-both (firstTwoNos sheet) (followed sheet .no ∷ []) (passed-head _ _ z .1) .0
 
   pub read-room : 64 ≤ length buffer
   read-room = rows .room
 
   pub read-stock : IsStock counts
-  unfolding sheetStock stockAt
-  read-stock = opening-stock 0 sheet none
+  read-stock = first-two-stock sheet none
 
   pub read-strip : IsStrip counts s
-  unfolding sheetStock sheetStrip stripBody stockAt stripAt
-  read-strip = opening-strip 0 sheet none
+  read-strip = first-two-strip sheet none
 
-  follows : Rebuilt counts s (drop 82 sheet) (followed sheet)
+  follows : Traced counts s (drop 82 sheet) (followed sheet)
   unfolding followed
-  follows = rebuilt counts (drop 82 sheet) s read-strip 82 (rows .end)
+  follows = traced counts (drop 82 sheet) s read-strip 82 (rows .end)
 
   pub read-moves : followed sheet .moves ≤ left counts s
   read-moves = follows .within
@@ -152,18 +155,18 @@ module _ (sheet buffer : List ℕ) (z : firstOf (readNos sheet buffer) .0 ≡ 0)
   first-padded : padded 16 counts ≡ take 16 (drop 1 sheet)
   unfolding sheetStock
   first-padded =
-      let l : length (take 16 (drop 1 sheet)) ≡ 16 = simp (length-take, length-drop) (omega (arith, opening-body 0 sheet none)) in
+      let l : length (take 16 (drop 1 sheet)) ≡ 16 = simp (length-take, length-drop) (omega (arith, first-two-long sheet none)) in
       rw l at (padded-used (take 16 (drop 1 sheet)))
 
   second-padded : padded 64 s ≡ take 64 (drop 18 sheet)
   unfolding sheetStrip stripBody
   second-padded =
-      let l : length (take 64 (drop 18 sheet)) ≡ 64 = simp (length-take, length-drop) (omega (arith, opening-body 0 sheet none)) in
+      let l : length (take 64 (drop 18 sheet)) ≡ 64 = simp (length-take, length-drop) (omega (arith, first-two-long sheet none)) in
       rw l at (padded-split (sum counts) (take 64 (drop 18 sheet)) (omega (arith, read-stock .short)) (rows .padding))
 
   pub read-is : sheet ≡ sheetOf counts s (followed sheet .moves)
   read-is =
-      reshaped sheet (omega (arith, opening-body 0 sheet none)) (rows .first) (rows .second)
+      reshaped sheet (omega (arith, first-two-long sheet none)) (rows .first) (rows .second)
       ∙ ap (λ (l : List ℕ). shaped l (take 64 (drop 18 sheet)) (drop 82 sheet)) (sym first-padded)
       ∙ ap (λ (l : List ℕ). shaped (padded 16 counts) l (drop 82 sheet)) (sym second-padded)
       ∙ ap (shaped (padded 16 counts) (padded 64 s)) (follows .sheet)

@@ -1,28 +1,23 @@
 -- Proofs. What is read before the moves, and then the moves from byte 82 on, come to what reading answers.
-use Prim.Native.Nat.{ℕ, _+_}
+use Prim.Native.Nat.{ℕ}
 use mathlib.Core.Path.{_≡_, refl, sym, ap, _∙_}
 use mathlib.Core.List.{List, [], _∷_, _++_}
 use native.Mathlib.Decide.{ℕ-discrete}
 use lib.Dec.{ltb}
 use lib.ListN.{length}
 use Rattle.rules.specs.Stock.{sum}
-use Rattle.rules.specs.Refusals.{No, when, orNext, firstOf, stockNos}
+use Rattle.rules.specs.Refusals.{No, when, orNext, firstOf}
 use Rattle.rules.proofs.Strips.{strip-sum}
 use Rattle.rules.proofs.Refusals.{first-stopped, first-passed, refused-first, passed-first, unless-refused}
 use Rattle.rules.proofs.Checks.{passed-head}
 use Rattle.stock.specs.declared.Refusal.{Refusal}
 use Rattle.records.specs.declared.opening.Opening.{Opening}
-use Rattle.records.specs.Records.{sheetStock, stripBody, sheetStrip, paddingNo}
-use Rattle.records.specs.Opened.{stockAt, stripAt, restAt, stockAtNos, stripAtNos, openingNos, heldStrip, Opened}
-use Rattle.records.proofs.Beginning.{opening-strip}
+use Rattle.records.specs.Records.{sheetStock, firstTwoNos}
+use Rattle.records.specs.Opened.{heldStrip, Opened}
+use Rattle.records.proofs.FirstTwo.{first-two-strip, first-two-refused, stock-held, strip-held}
 use Rattle.following.specs.Following.{asReadout}
 use Rattle.reading.specs.Reading.{followed, readNos, readAnswer, readBuffer}
 use Rattle.reading.specs.Halves.{followedAt, movesNos, movesAnswer, movesBuffer}
-
--- reading's refusals: 4, those of the records before the moves, and that of the moves and the end
-pub read-rows : (sheet buffer : List ℕ) → readNos sheet buffer ≡ when 4 (ltb (length buffer) 64) ∷ (openingNos 0 sheet ++ (followed sheet .no ∷ []))
-unfolding readNos openingNos stockAtNos stripAtNos stockNos paddingNo stockAt stripAt restAt sheetStock sheetStrip stripBody
-read-rows sheet buffer = refl
 
 under : (x : No) (xs ys : List No) → firstOf xs ≡ firstOf ys → firstOf (x ∷ xs) ≡ firstOf (x ∷ ys)
 unfolding firstOf
@@ -30,45 +25,43 @@ under x xs ys e = ap (orNext x) e
 
 module _ (sheet buffer : List ℕ) (o : Opening) (r : Opened 0 sheet o) where
   abbrev before : No
-  before = firstOf (openingNos 0 sheet)
+  before = firstOf (firstTwoNos sheet)
 
   no-is : o .refusal .no ≡ before .0
-  no-is = ap (λ (r : Refusal). r .no) (r .refused)
+  no-is = ap (λ (r : Refusal). r .no) (first-two-refused sheet o r)
 
   pair-is : _≡_ {A = No} (o .refusal .no, o .refusal .place) before
-  pair-is = ap (λ (r : Refusal). (r .no, r .place)) (r .refused)
+  pair-is = ap (λ (r : Refusal). (r .no, r .place)) (first-two-refused sheet o r)
 
   abbrev four : No
   four = when 4 (ltb (length buffer) 64)
 
   first-refused : (before .0 ≡ 0 → ⊥) → firstOf (movesNos 82 sheet o buffer) ≡ firstOf (readNos sheet buffer)
-  unfolding movesNos
+  unfolding movesNos readNos
   first-refused h =
-      rw (read-rows sheet buffer, pair-is)
-      (under four (before ∷ followedAt 82 sheet o .no ∷ []) (openingNos 0 sheet ++ (followed sheet .no ∷ [])) (first-stopped before (followedAt 82 sheet o .no ∷ []) h ∙ sym (refused-first (openingNos 0 sheet) (followed sheet .no ∷ []) h)))
+      rw pair-is
+      (under four (before ∷ followedAt 82 sheet o .no ∷ []) (firstTwoNos sheet ++ (followed sheet .no ∷ [])) (first-stopped before (followedAt 82 sheet o .no ∷ []) h ∙ sym (refused-first (firstTwoNos sheet) (followed sheet .no ∷ []) h)))
 
   still-refused : (before .0 ≡ 0 → ⊥) → firstOf (readNos sheet buffer) .0 ≡ 0 → ⊥
+  unfolding readNos
   still-refused h z =
-      h (sym (ap (λ (r : No). r .0) (refused-first (openingNos 0 sheet) (followed sheet .no ∷ []) h)) ∙ passed-head four _ (rw (read-rows sheet buffer) at z) .1)
+      h (sym (ap (λ (r : No). r .0) (refused-first (firstTwoNos sheet) (followed sheet .no ∷ []) h)) ∙ passed-head four _ z .1)
 
   module _ (none : before .0 ≡ 0) where
     same-followed : followedAt 82 sheet o ≡ followed sheet
-    unfolding followedAt followed stockAt stripAt sheetStock sheetStrip stripBody
+    unfolding followedAt followed
     same-followed =
         let z : o .refusal .no ≡ 0 = no-is ∙ none in
-        rw (r .stock z, r .strip z)
+        rw (stock-held sheet o r z, strip-held sheet o r z)
 
     same-first : firstOf (movesNos 82 sheet o buffer) ≡ firstOf (readNos sheet buffer)
-    unfolding movesNos
+    unfolding movesNos readNos
     same-first =
-        rw (read-rows sheet buffer, pair-is, same-followed)
-        (under four (before ∷ followed sheet .no ∷ []) (openingNos 0 sheet ++ (followed sheet .no ∷ [])) (first-passed before (followed sheet .no ∷ []) none ∙ sym (passed-first (openingNos 0 sheet) (followed sheet .no ∷ []) none)))
+        rw (pair-is, same-followed)
+        (under four (before ∷ followed sheet .no ∷ []) (firstTwoNos sheet ++ (followed sheet .no ∷ [])) (first-passed before (followed sheet .no ∷ []) none ∙ sym (passed-first (firstTwoNos sheet) (followed sheet .no ∷ []) none)))
 
     same-length : length (heldStrip o) ≡ sum (sheetStock sheet)
-    unfolding stockAt sheetStock
-    same-length =
-        let z : o .refusal .no ≡ 0 = no-is ∙ none in
-        ap length (r .strip z) ∙ strip-sum _ _ (opening-strip 0 sheet none)
+    same-length = ap length (strip-held sheet o r (no-is ∙ none)) ∙ strip-sum _ _ (first-two-strip sheet none)
 
   pub same-answer : movesAnswer 82 sheet o buffer ≡ readAnswer sheet buffer
   unfolding movesAnswer readAnswer

@@ -4,6 +4,6 @@ mod Joined
 mod Padding
 mod Shape
 mod MoveRecords
-mod Exactly
-mod SoldOut
+pub mod Exactly
+pub mod SoldOut
 pub mod Theorems

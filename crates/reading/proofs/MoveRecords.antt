@@ -48,7 +48,7 @@ module _ (counts : List ℕ) where
       rw (front counts s h some c, e) (whole-move counts s at 3 refl _ _ (moveRecords counts t c ++ (4 ∷ [])) ∙ rw (e, same-self (two .0 ∷ two .1 ∷ []), later, onward-onward counts s h some c))
 
   -- and back: what is followed to the end without a refusal is those records
-  pub record Rebuilt (s l : List ℕ) (f : Followed) : Type 0 where
+  pub record Traced (s l : List ℕ) (f : Followed) : Type 0 where
     pub sheet : l ≡ moveRecords counts s (f .moves) ++ (4 ∷ [])
     pub within : f .moves ≤ left counts s
     pub strip : f .strip ≡ onward counts s (f .moves)
@@ -58,11 +58,11 @@ module _ (counts : List ℕ) where
   not-refused : (f : Followed) (n at : ℕ) → f ≡ refusedAt (suc n) at → f .no .0 ≡ 0 → ⊥
   not-refused f n at e z = omega (arith, ap (λ (f : Followed). f .no .0) e, z)
 
-  at-end : (s : List ℕ) → IsStrip counts s → (at : ℕ) (rest : List ℕ) → ended s at rest .no .0 ≡ 0 → Rebuilt s (4 ∷ rest) (ended s at rest)
+  at-end : (s : List ℕ) → IsStrip counts s → (at : ℕ) (rest : List ℕ) → ended s at rest .no .0 ≡ 0 → Traced s (4 ∷ rest) (ended s at rest)
   at-end s h at [] z = record { sheet = rw (records-none counts s); within = omega arith; strip = sym (along-none false counts s h); none = refl }
   at-end s h at (x ∷ rest) z = absurd (omega arith)
 
-  no-move : (kind : ℕ) → (kind ≡ 3 → ⊥) → (rest s : List ℕ) → IsStrip counts s → (at : ℕ) → follow counts s at (kind ∷ rest) .no .0 ≡ 0 → Rebuilt s (kind ∷ rest) (follow counts s at (kind ∷ rest))
+  no-move : (kind : ℕ) → (kind ≡ 3 → ⊥) → (rest s : List ℕ) → IsStrip counts s → (at : ℕ) → follow counts s at (kind ∷ rest) .no .0 ≡ 0 → Traced s (kind ∷ rest) (follow counts s at (kind ∷ rest))
   no-move kind k rest s h at z = elim (ℕ-discrete kind 4) [
     | yes e ↦
         let f : follow counts s at (kind ∷ rest) ≡ ended s at rest = not-move counts s at kind k rest ∙ rw (eq-eqb kind 4 e) in
@@ -70,9 +70,9 @@ module _ (counts : List ℕ) where
     | no e ↦ absurd (not-refused _ 10 at (not-move counts s at kind k rest ∙ rw (ne-eqb kind 4 e)) z)
   ]
 
-  -- a move record that is the next move, with what is rebuilt of the rest
+  -- a move record that is the next move, with what is traced of the rest
   module _ (p q : ℕ) (rest s : List ℕ) (h : IsStrip counts s) (at : ℕ) where
-    moved : (f : Followed) → places s (onward counts s 1) ≡ p ∷ q ∷ [] → (IsStrip counts (onward counts s 1) → Rebuilt (onward counts s 1) rest f) → Rebuilt s (3 ∷ p ∷ q ∷ rest) (oneMore f)
+    moved : (f : Followed) → places s (onward counts s 1) ≡ p ∷ q ∷ [] → (IsStrip counts (onward counts s 1) → Traced (onward counts s 1) rest f) → Traced s (3 ∷ p ∷ q ∷ rest) (oneMore f)
     moved f e later =
         let some : 1 ≤ left counts s = elim (ℕ-discrete (left counts s) 0) [
           | yes z ↦ let n : _≡_ {A = ℕ} 0 1 = cc (rw (past-last counts s h z, no-places 1 s) at e) in absurd (omega arith)
@@ -86,8 +86,8 @@ module _ (counts : List ℕ) where
           none = r .none;
         }
 
-    by-places : (b : Bool) → same (places s (onward counts s 1)) (p ∷ q ∷ []) ≡ b → (f : Followed) → ifNext b at f .no .0 ≡ 0 → (IsStrip counts (onward counts s 1) → f .no .0 ≡ 0 → Rebuilt (onward counts s 1) rest f)
-        → Rebuilt s (3 ∷ p ∷ q ∷ rest) (ifNext b at f)
+    by-places : (b : Bool) → same (places s (onward counts s 1)) (p ∷ q ∷ []) ≡ b → (f : Followed) → ifNext b at f .no .0 ≡ 0 → (IsStrip counts (onward counts s 1) → f .no .0 ≡ 0 → Traced (onward counts s 1) rest f)
+        → Traced s (3 ∷ p ∷ q ∷ rest) (ifNext b at f)
     by-places true e f z later = moved f (same-true (places s (onward counts s 1)) (p ∷ q ∷ []) e) (λ k. later k z)
     by-places false e f z later = absurd (omega arith)
 
@@ -95,20 +95,20 @@ module _ (counts : List ℕ) where
   unfolding follow
   follow-nothing s at = refl
 
-  pub rebuilt : (l s : List ℕ) → IsStrip counts s → (at : ℕ) → follow counts s at l .no .0 ≡ 0 → Rebuilt s l (follow counts s at l)
-  rebuilt [] s h at z = absurd (not-refused _ 10 at (follow-nothing s at) z)
-  rebuilt (kind ∷ []) s h at z = elim (ℕ-discrete kind 3) [
+  pub traced : (l s : List ℕ) → IsStrip counts s → (at : ℕ) → follow counts s at l .no .0 ≡ 0 → Traced s l (follow counts s at l)
+  traced [] s h at z = absurd (not-refused _ 10 at (follow-nothing s at) z)
+  traced (kind ∷ []) s h at z = elim (ℕ-discrete kind 3) [
     | yes e ↦ absurd (not-refused _ 10 at (short-move counts s at kind e [] (omega arith)) z)
     | no e ↦ no-move kind e [] s h at z
   ]
-  rebuilt (kind ∷ p ∷ []) s h at z = elim (ℕ-discrete kind 3) [
+  traced (kind ∷ p ∷ []) s h at z = elim (ℕ-discrete kind 3) [
     | yes e ↦ absurd (not-refused _ 10 at (short-move counts s at kind e (p ∷ []) (omega arith)) z)
     | no e ↦ no-move kind e (p ∷ []) s h at z
   ]
-  rebuilt (kind ∷ p ∷ q ∷ rest) s h at z = go (rebuilt rest (onward counts s 1)) (ℕ-discrete kind 3)
+  traced (kind ∷ p ∷ q ∷ rest) s h at z = go (traced rest (onward counts s 1)) (ℕ-discrete kind 3)
     where
-      go : (IsStrip counts (onward counts s 1) → (at : ℕ) → follow counts (onward counts s 1) at rest .no .0 ≡ 0 → Rebuilt (onward counts s 1) rest (follow counts (onward counts s 1) at rest))
-          → Dec (kind ≡ 3) → Rebuilt s (kind ∷ p ∷ q ∷ rest) (follow counts s at (kind ∷ p ∷ q ∷ rest))
+      go : (IsStrip counts (onward counts s 1) → (at : ℕ) → follow counts (onward counts s 1) at rest .no .0 ≡ 0 → Traced (onward counts s 1) rest (follow counts (onward counts s 1) at rest))
+          → Dec (kind ≡ 3) → Traced s (kind ∷ p ∷ q ∷ rest) (follow counts s at (kind ∷ p ∷ q ∷ rest))
       go later (no e) = no-move kind e (p ∷ q ∷ rest) s h at z
       go later (yes e) =
           let f = whole-move counts s at kind e p q rest in

@@ -10,10 +10,10 @@ use lib.ListN.{length, getD, take, drop, replicate, take-append-drop}
 use Rattle.rules.specs.Stock.{sum, lastCount, IsStock}
 use Rattle.rules.specs.Book.{same}
 use Rattle.rules.specs.Refusals.{No, when, atPlace, firstOf, smallest, isStranger, isMiscounted, zeroNo, stockNos}
-use Rattle.rules.proofs.Refusals.{first-passed, passed-first, at-place, end-is, row-is, both-is, when-is, stock-is, stranger-is, amount-is}
+use Rattle.rules.proofs.Refusals.{first-passed, refused-first, passed-first, at-place, end-is, row-is, both-is, when-is, stock-is, stranger-is, amount-is}
 use Rattle.rules.proofs.Checks.{accepted-back}
 use Rattle.rules.proofs.SoldOut.{sold-out-miscounted}
-use Rattle.records.specs.Records.{used, sheetStock, stripBody, sheetStrip, recordNo, paddingNo}
+use Rattle.records.specs.Records.{used, sheetStock, stripBody, sheetStrip, recordNo, paddingNo, firstTwoNos}
 use Rattle.records.proofs.BodyLaws.{record-there}
 use Rattle.following.proofs.Steps.{follow-is}
 use Rattle.reading.specs.Reading.{followed, readNos}
@@ -56,24 +56,29 @@ followed-not-two : (sheet : List ℕ) → NotTwo (followed sheet .no .0)
 unfolding followed
 followed-not-two sheet = follow-is NotTwo none (λ e. omega arith) (λ e. omega arith) (sheetStock sheet) (sheetStrip sheet) 82 (drop 82 sheet)
 
-pub two-never : (sheet buffer : List ℕ) → firstOf (readNos sheet buffer) .0 ≡ 2 → ⊥
-unfolding readNos
-two-never sheet buffer =
+-- of the first two records, whoever reads them
+pub first-two-not-two : (sheet : List ℕ) → NotTwo (firstOf (firstTwoNos sheet) .0)
+unfolding firstTwoNos
+first-two-not-two sheet =
     let counts = sheetStock sheet in
     let s = sheetStrip sheet in
-    row-is NotTwo none _ _ (when-is NotTwo none 4 0 (λ e. omega arith) (ltb (length buffer) 64))
-    (row-is NotTwo none _ _ (record-not-two 1 16 0 sheet)
+    row-is NotTwo none _ _ (record-not-two 1 16 0 sheet)
     (both-is NotTwo none (stockNos counts) _ (sheet-not-two sheet)
     (row-is NotTwo none _ _ (record-not-two 2 64 17 sheet)
     (row-is NotTwo none _ _ (stranger-is NotTwo none counts (λ e. omega arith) s)
     (row-is NotTwo none _ _ (amount-is NotTwo none counts (λ e. omega arith) s)
-    (row-is NotTwo none _ _ (padding-not-two sheet)
-    (row-is NotTwo none _ [] (followed-not-two sheet) (end-is NotTwo none))))))))
+    (row-is NotTwo none _ [] (padding-not-two sheet) (end-is NotTwo none))))))
+
+pub two-never : (sheet buffer : List ℕ) → firstOf (readNos sheet buffer) .0 ≡ 2 → ⊥
+unfolding readNos
+two-never sheet buffer =
+    row-is NotTwo none _ _ (when-is NotTwo none 4 0 (λ e. omega arith) (ltb (length buffer) 64))
+    (both-is NotTwo none (firstTwoNos sheet) _ (first-two-not-two sheet) (row-is NotTwo none _ [] (followed-not-two sheet) (end-is NotTwo none)))
 
 -- ---- sixteen zeros
 
 zeros-first : (buffer rest : List ℕ) → 64 ≤ length buffer → firstOf (readNos ((1 ∷ replicate 16 0) ++ rest) buffer) ≡ (1, 0)
-unfolding readNos sheetStock used stockNos firstOf
+unfolding readNos firstTwoNos sheetStock used stockNos firstOf
 zeros-first buffer rest room = rw (le-ltb (length buffer) 64 room, ← record-there 1 16 0 ((1 ∷ replicate 16 0) ++ rest) refl (omega arith))
 
 pub zeros-are-one : (sheet buffer : List ℕ) → 64 ≤ length buffer → take 17 sheet ≡ 1 ∷ replicate 16 0 → firstOf (readNos sheet buffer) ≡ (1, 0)
@@ -88,14 +93,16 @@ module _ (sheet buffer : List ℕ) (room : 64 ≤ length buffer) (first : record
     (second : recordNo 2 64 17 sheet .0 ≡ 0) (own : smallest (isStranger (sheetStock sheet)) (sheetStrip sheet) ≡ 0) where
   pub sold-out-read : (i j : ℕ) → i < length (sheetStrip sheet) → getD (sheetStrip sheet) i 0 ≡ suc j → j < length (sheetStock sheet) → getD (sheetStock sheet) j 0 ≡ 0
       → firstOf (readNos sheet buffer) .0 ≡ 6
-  unfolding readNos
+  unfolding readNos firstTwoNos
   sold-out-read i j inside names kind none =
       let p = smallest (isMiscounted (sheetStrip sheet)) (sheetStock sheet) in
       let four : when 4 (ltb (length buffer) 64) .0 ≡ 0 = rw (le-ltb (length buffer) 64 room) in
-      ap (λ (r : No). r .0)
-      (first-passed _ _ four
-      ∙ first-passed _ _ first
+      let six : firstOf (firstTwoNos sheet) ≡ (6, p) =
+      first-passed _ _ first
       ∙ passed-first (stockNos (sheetStock sheet)) _ (ap (λ (r : No). r .0) (accepted-back (sheetStock sheet) stock))
       ∙ first-passed _ _ second
       ∙ first-passed _ _ (ap (λ (p : ℕ). atPlace 5 p .0) own)
-      ∙ at-place 5 _ p (sold-out-miscounted (sheetStock sheet) (sheetStrip sheet) i j inside names kind none))
+      ∙ at-place 5 _ p (sold-out-miscounted (sheetStock sheet) (sheetStrip sheet) i j inside names kind none)
+      in
+      let refused : firstOf (firstTwoNos sheet) .0 ≡ 0 → ⊥ = λ z. omega (arith, ap (λ (r : No). r .0) six) in
+      ap (λ (r : No). r .0) (first-passed _ _ four ∙ refused-first (firstTwoNos sheet) (followed sheet .no ∷ []) refused ∙ six)

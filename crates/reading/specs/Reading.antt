@@ -4,8 +4,8 @@ use mathlib.Core.List.{List, [], _∷_, _++_}
 use lib.Dec.{ltb}
 use lib.ListN.{length, drop}
 use Rattle.rules.specs.Stock.{sum}
-use Rattle.rules.specs.Refusals.{No, when, firstOf, unless, answer, strangerNo, amountNo, stockNos}
-use Rattle.records.specs.Records.{sheetStock, sheetStrip, recordNo, paddingNo}
+use Rattle.rules.specs.Refusals.{No, when, firstOf, unless, answer}
+use Rattle.records.specs.Records.{sheetStock, sheetStrip, firstTwoNos}
 use Rattle.following.specs.declared.Readout.{Readout}
 use Rattle.following.specs.Following.{Followed, follow, asReadout}
 
@@ -13,16 +13,10 @@ use Rattle.following.specs.Following.{Followed, follow, asReadout}
 unfoldable pub followed : List ℕ → Followed
 followed sheet = follow (sheetStock sheet) (sheetStrip sheet) 82 (drop 82 sheet)
 
--- ---- reading: 4; then record by record 11, then 1, 2, 3 in a stock, of which 2 is never met (`never-two`, proved); 11, then 5, 6, then padding in a strip;
--- then the moves and the end
+-- ---- reading: 4; then the first two records, in whose stock 2 is never met (`never-two`, proved); then the moves and the end
 
 unfoldable pub readNos : List ℕ → List ℕ → List No
-readNos sheet buffer =
-    let counts = sheetStock sheet in
-    let s = sheetStrip sheet in
-    when 4 (ltb (length buffer) 64)
-    ∷ recordNo 1 16 0 sheet
-    ∷ (stockNos counts ++ (recordNo 2 64 17 sheet ∷ strangerNo counts s ∷ amountNo counts s ∷ paddingNo sheet ∷ followed sheet .no ∷ []))
+readNos sheet buffer = when 4 (ltb (length buffer) 64) ∷ (firstTwoNos sheet ++ (followed sheet .no ∷ []))
 
 unfoldable pub readAnswer : List ℕ → List ℕ → Readout
 readAnswer sheet buffer = answer asReadout (readNos sheet buffer) 0 (followed sheet .moves)

@@ -2,3 +2,4 @@
 pub mod BodyLaws
 pub mod Checking
 pub mod Beginning
+pub mod FirstTwo

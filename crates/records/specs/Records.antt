@@ -1,12 +1,12 @@
 -- TO BE BELIEVED. The records of a sheet before the moves: which stock and which strip they hold, and the refusals of a record.
 use Prim.Native.Nat.{ℕ, zero, suc, _+_}
 use mathlib.Core.Bool.{not, _||_}
-use mathlib.Core.List.{List, [], _∷_}
+use mathlib.Core.List.{List, [], _∷_, _++_}
 use lib.Dec.{eqb, ltb}
 use lib.ListN.{length, getD, take, drop, replicate}
 use Rattle.rules.specs.Stock.{sum}
 use Rattle.rules.specs.Book.{same}
-use Rattle.rules.specs.Refusals.{No, whenAt}
+use Rattle.rules.specs.Refusals.{No, whenAt, strangerNo, amountNo, stockNos}
 
 -- ---- the stock and the strip of a sheet
 
@@ -41,3 +41,10 @@ unfoldable pub paddingNo : List ℕ → No
 paddingNo sheet =
     let rest = drop (sum (sheetStock sheet)) (stripBody sheet) in
     whenAt 11 17 (not (same rest (replicate (length rest) 0)))
+
+-- of the first two records: 11, then 1, 2, 3 in the stock; 11, then 5, 6, then padding in the strip
+unfoldable pub firstTwoNos : List ℕ → List No
+firstTwoNos sheet =
+    let counts = sheetStock sheet in
+    let s = sheetStrip sheet in
+    recordNo 1 16 0 sheet ∷ (stockNos counts ++ (recordNo 2 64 17 sheet ∷ strangerNo counts s ∷ amountNo counts s ∷ paddingNo sheet ∷ []))

@@ -14,6 +14,10 @@ use Rattle.sheets.specs.Sheets.{stockRecord, stripRecord, moveRecords, e
 use Rattle.sheets.proofs.Bodies.{padded-long}
 
 module _ (counts s : List ℕ) (k : IsStock counts) (h : IsStrip counts s) where
+  -- a strip is no longer than its record's body
+  pub strip-fits : length s ≤ 64
+  strip-fits = omega (arith, strip-sum counts s h, k .short)
+
   pub moves-long : (c : ℕ) → c ≤ left counts s → length (moveRecords counts s c) ≡ 3 * c
   unfolding moveRecords
   moves-long zero l = refl
@@ -32,5 +36,5 @@ module _ (counts s : List ℕ) (k : IsStock counts) (h : IsStrip counts s) where
         length-append m endRecord,
         moves-long c l,
         padded-long 16 counts (k .few),
-        padded-long 64 s (omega (arith, strip-sum counts s h, k .short)),
+        padded-long 64 s strip-fits,
       )

@@ -12,6 +12,7 @@ use crate::single::first_agrees;
 use crate::single::number_agrees;
 use crate::single::open_agrees;
 use crate::single::strip_agrees;
+use crate::spoiled::compare_sheets;
 use crate::tally;
 use crate::tally::Tally;
 use crate::tally::note;
@@ -53,6 +54,13 @@ fn compare_pairs(tally: &mut Tally, stock: &[u16], book: &[u8], i: usize, n: usi
     }
 }
 
+// The sheets from the strip of a number, for stocks of up to 4 blocks.
+fn compare_small(tally: &mut Tally, stock: &[u16], book: &[u8], i: usize, n: usize) {
+    if n <= 4 {
+        compare_sheets(tally, stock, book, i, n);
+    }
+}
+
 fn compare_strips(tally: &mut Tally, stock: &[u16], book: &[u8], work: &mut [u8]) {
     let n = work.len();
     let strips = book.len() / 8;
@@ -61,6 +69,7 @@ fn compare_strips(tally: &mut Tally, stock: &[u16], book: &[u8], work: &mut [u8]
         compare_strip(tally, stock, book, i, work);
         compare_moves(tally, stock, book, i, work);
         compare_pairs(tally, stock, book, i, n);
+        compare_small(tally, stock, book, i, n);
         i += 1;
     }
 }

@@ -11,8 +11,10 @@ mod pairs;
 mod patterns;
 mod rows;
 mod runs;
+mod sheets;
 mod shelf;
 mod single;
+mod spoiled;
 mod stocks;
 mod tally;
 

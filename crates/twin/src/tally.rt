@@ -39,6 +39,12 @@ pub const TO_DICTIONARY: usize = 15;
 
 pub const TO_BOOK: usize = 16;
 
+pub const REBUILT_CUT: usize = 17;
+
+pub const REBUILT_BYTE: usize = 18;
+
+pub const REBUILT_TAIL: usize = 19;
+
 fn add_one(tally: &mut Tally, i: usize) {
     if i < 64 {
         let seen = tally[i];
@@ -101,6 +107,16 @@ fn print_dictionary(tally: &Tally) {
     line(b"To book: ", tally, TO_BOOK);
 }
 
+fn print_sheets(tally: &Tally) {
+    line(b"Rebuild, cut or longer: ", tally, REBUILT_CUT);
+    line(b"Rebuild, one byte spoiled: ", tally, REBUILT_BYTE);
+    line(
+        b"Rebuild, all spoiled from a byte on: ",
+        tally,
+        REBUILT_TAIL,
+    );
+}
+
 // Count is compared once a stock, and Number once a strip.
 pub fn print(tally: &Tally) {
     said(b"Stocks: ", tally[COUNT]);
@@ -110,4 +126,5 @@ pub fn print(tally: &Tally) {
     print_moves(tally);
     print_pairs(tally);
     print_dictionary(tally);
+    print_sheets(tally);
 }

@@ -1,5 +1,5 @@
 // Writing a press sheet.
-mod moves;
-mod room;
+pub mod moves;
+pub mod room;
 pub mod sheet;
-mod whole;
+pub mod whole;

@@ -1,9 +1,8 @@
 // Writing a sheet: a stock, a strip of it, and so many moves on.
-use crate::moves::has_moves;
+use crate::moves::moves_up_to;
 use crate::room::has_room;
 use crate::whole::put_sheet;
 use sheets::Written;
-use sheets::records::padded_strip;
 use stock::Refusal;
 use stock::check_strip;
 use walker::directions::walker_of;
@@ -31,9 +30,7 @@ pub fn write_sheet(stock: &[u16], strip: &[u8], moves: u64, sheet: &mut [u8]) ->
     }
     let walker = walker_of(stock, strip);
     let c = moves as usize;
-    let n = strip.len();
-    let mut word = padded_strip(strip);
-    if !has_moves(stock, &mut word[..n], walker, c) {
+    if moves_up_to(stock, strip, walker, c) < c {
         return Written {
             refusal: Refusal { no: 9, place: 0 },
             length: 0,

@@ -1,20 +1,16 @@
 -- `writing::sheet::write_sheet` meets its contract: the checks in the order of its refusals, then the sheet.
-use Prim.Native.Nat.{ℕ, _+_, _*_, _≤_}
-use mathlib.Core.Path.{_≡_, sym, ap, _∙_}
-use mathlib.Core.List.{List}
+use Prim.Native.Nat.{_+_, _*_, _≤_}
+use mathlib.Core.Path.{_≡_}
 use native.Mathlib.Omega.{arith}
 use borrow.Author.Needs.{needs}
-use borrow.Author.Tests.{leb-true, leb-false, not-true, not-false}
-use lib.Dec.{leb}
-use lib.ListN.{length, take}
+use borrow.Author.Tests.{not-false}
+use lib.ListN.{length}
 use Rattle.rules.specs.Stock.{IsStock, IsStrip}
 use Rattle.rules.specs.Refusals.{firstOf, checkNos}
-use Rattle.rules.proofs.Strips.{strip-sum}
 use Rattle.rules.proofs.Checks.{accepted-both}
 use Rattle.stock.proofs.Tested.{passed}
 use Rattle.walking.specs.Answers.{left}
 use Rattle.walking.specs.Checked.{Checked}
-use Rattle.sheets.proofs.Bodies.{padded-long, padded-front}
 use Rattle.sheets.proofs.Called.{refused, no-room, fewer, written}
 use Rattle.writing.proofs.sheet.write_sheet.Statement.{statement}
 use Rattle.writing.proofs.sheet.write_sheet.Tie as tie
@@ -32,9 +28,6 @@ module _ (c : tie.Else1) where
 
   both : IsStock (begun .args .stock .now) × IsStrip (begun .args .stock .now) (begun .args .strip .now)
   both = accepted-both _ _ none-yet
-
-  short : length (begun .args .strip .now) ≤ 64
-  short = omega (arith, strip-sum (begun .args .stock .now) (begun .args .strip .now) (both .1), both .0 .short)
 
 returns-2 : tie.Need-returns-2
 returns-2 c =
@@ -58,39 +51,21 @@ module _ (c : tie.After-walker-of) where
   ready : let a = begun (checked roomy) .args in Checked (a .stock .now) (a .strip .now) (c .walker-of .result)
   ready = let b = both (checked roomy) in record { stock = b .0; strip = b .1; walker = c .walker-of .ensures }
 
--- the strip that walks is the strip
-module _ (c : tie.After-padded-strip) where
-  abbrev walker : tie.After-walker-of
-  walker = c .before
-
-  own : let a = begun (checked (roomy walker)) .args in take (length (a .strip .now)) (c .padded-strip .result) ≡ a .strip .now
-  own = padded-front 64 (begun (checked (roomy walker)) .args .strip .now) (c .padded-strip .result) (c .padded-strip .ensures)
-
--- whether the moves are left
-module _ (c : tie.After-has-moves) where
-  abbrev copied : tie.After-padded-strip
-  copied = c .before .before
-
-  told : let a = begun (checked (roomy (walker copied))) .args in c .has-moves .result ≡ leb (a .moves) (left (a .stock .now) (a .strip .now))
-  told = let a = begun (checked (roomy (walker copied))) .args in c .has-moves .ensures ∙ ap (λ (s : List ℕ). leb (a .moves) (left (a .stock .now) s)) (own copied)
-
 returns-3 : tie.Need-returns-3
 returns-3 c =
-    let h = c .before .before in
-    let r = roomy (walker (copied h)) in
+    let w = c .before in
+    let r = roomy (w .before) in
     let a = begun (checked r) .args in
-    fewer _ _ (a .moves) (a .sheet .now) (none-yet (checked r)) (room r) (leb-false (a .moves) (left (a .stock .now) (a .strip .now)) (sym (told h) ∙ not-true _ (c .if3 .taken)))
+    fewer _ _ (a .moves) (a .sheet .now) (none-yet (checked r)) (room r) (omega (arith, w .moves-up-to .ensures))
 
 -- past 9
-enough : (c : tie.Else3) → let a = begun (checked (roomy (walker (copied (c .before .before))))) .args in a .moves ≤ left (a .stock .now) (a .strip .now)
-enough c =
-    let a = begun (checked (roomy (walker (copied (c .before .before))))) .args in
-    leb-true (a .moves) (left (a .stock .now) (a .strip .now)) (sym (told (c .before .before)) ∙ not-false _ (c .if3 .left))
+enough : (c : tie.Else3) → let a = begun (checked (roomy (c .before .before))) .args in a .moves ≤ left (a .stock .now) (a .strip .now)
+enough c = omega (arith, c .before .moves-up-to .ensures)
 
 returns-4 : tie.Need-returns-4
 returns-4 c =
     let e = c .before .before .before .before in
-    let r = roomy (walker (copied (e .before .before))) in
+    let r = roomy (e .before .before) in
     let a = begun (checked r) .args in
     written _ _ (a .moves) (a .sheet .now) (none-yet (checked r)) (room r) (enough e) _ (c .before .before .put-sheet .ensures)
 
@@ -103,13 +78,10 @@ write-sheet-spec =
     (λ c κs. search needs)
     returns-2
     (λ c κs. let b = both (checked c) in (b .0, b .1))
-    (λ c κs. short (checked (roomy c)))
-    (λ c. let b = checked (roomy (walker c)) in omega (arith, short b, padded-long 64 (begun b .args .strip .now) (short b), ap length (c .padded-strip .ensures)))
-    (λ c. sym (ap length (own (c .before))))
-    (λ c κs. rw (own (c .before)) (ready (walker (c .before))))
+    (λ c κs. ready c)
     returns-3
-    (λ c κs. let h = copied (c .before .before .before) in (ready (walker h), enough (c .before), room (roomy (walker h))))
-    (λ c. let r = roomy (walker (copied (c .before .before .before .before .before .before))) in omega (arith, room r, begun (checked r) .good .1 .1 .1 .0 .0))
-    (λ c. let r = roomy (walker (copied (c .before .before .before .before .before .before))) in omega (arith, room r, begun (checked r) .good .1 .1 .1 .0 .0))
+    (λ c κs. let h = c .before .before .before in (ready h, enough (c .before), room (roomy h)))
+    (λ c. let r = roomy (c .before .before .before .before .before .before) in omega (arith, room r, begun (checked r) .good .1 .1 .1 .0 .0))
+    (λ c. let r = roomy (c .before .before .before .before .before .before) in omega (arith, room r, begun (checked r) .good .1 .1 .1 .0 .0))
     (λ c. c .before .before .put-sheet .kept .0)
     returns-4)

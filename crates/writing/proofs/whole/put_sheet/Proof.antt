@@ -5,17 +5,17 @@ use mathlib.Core.List.{List, _++_, append-assoc}
 use native.Mathlib.Omega.{arith}
 use borrow.Rule.Slice.PartMut.{putMid}
 use lib.ListN.{length, take, drop}
-use Rattle.rules.proofs.Strips.{strip-sum}
 use Rattle.sheets.specs.Sheets.{stockRecord, stripRecord, moveRecords, endRecord, sheetOf}
 use Rattle.sheets.proofs.Rest.{Filled, first, more, rest-long, same-long}
 use Rattle.sheets.proofs.Bodies.{padded-long, padded-front}
+use Rattle.sheets.proofs.Lengths.{strip-fits}
 use Rattle.writing.proofs.Listing.{of-same}
 use Rattle.writing.proofs.whole.put_sheet.Statement.{statement}
 use Rattle.writing.proofs.whole.put_sheet.Tie as tie
 
 -- the strip is no longer than its record's body
 short : (c : tie.Start) → length (c .args .strip .now) ≤ 64
-short c = omega (arith, strip-sum (c .args .stock .now) (c .args .strip .now) (c .pre .0 .strip), c .pre .0 .stock .short)
+short c = strip-fits _ _ (c .pre .0 .stock) (c .pre .0 .strip)
 
 -- the records, one after the other, are the sheet
 whole : (counts s z₀ z : List ℕ) (c : ℕ) → Filled z₀ z (((stockRecord counts ++ stripRecord s) ++ moveRecords counts s c) ++ endRecord) (82 + 3 * c + 1)

@@ -1,21 +1,20 @@
--- `writing::moves::has_moves` meets its contract. The invariant: the walk has made so many moves.
+-- `writing::moves::walk_up_to` meets its contract. The invariant: the walk has made so many moves.
 use Prim.Native.Nat.{_-_, _≤_}
 use mathlib.Core.Path.{_≡_, sym, _∙_}
 use mathlib.Core.Bool.{false}
+use native.Mathlib.Nat.{min-eq-right}
 use native.Mathlib.Omega.{arith}
-use borrow.Author.Tests.{le-leb, lt-leb}
 use lib.ListN.{length}
-use Rattle.walking.specs.Answers.{left}
 use Rattle.walking.specs.Checked.{Checked}
 use Rattle.walking.proofs.Walked.{Walked, start, checked, same-length, stopped, on}
-use Rattle.writing.proofs.moves.has_moves.Statement.{statement}
-use Rattle.writing.proofs.moves.has_moves.Tie as tie
+use Rattle.writing.proofs.moves.walk_up_to.Statement.{statement}
+use Rattle.writing.proofs.moves.walk_up_to.Tie as tie
 
 abbrev Inv-loop : tie.InvT-loop
-Inv-loop stock strip₀ moves walker₀ made₀ strip walker made = (made ≤ moves) × Walked false stock strip₀ strip walker made
+Inv-loop stock strip₀ most walker₀ made₀ strip walker made = (made ≤ most) × Walked false stock strip₀ strip walker made
 
 abbrev μ-loop : tie.MeasureT-loop
-μ-loop stock strip₀ moves walker₀ made₀ strip walker made = moves - made
+μ-loop stock strip₀ most walker₀ made₀ strip walker made = most - made
 
 -- at the loop's head the strip and the walker are checked, and the strip is as long as it was
 module _ (b : tie.At-loop Inv-loop μ-loop) where
@@ -30,14 +29,11 @@ returns c =
     let s = c .before .before .before .before in
     let b = s .before .before .before in
     let p = b .before .before .before .pre in
-    let a = b .before .before .before .args in
     let e = stopped false _ _ _ _ _ (p .stock) (p .strip) (b .loop .inv .1) _ _ (s .step .ensures) (omega arith) in
-    sym (lt-leb (a .moves) (left (a .stock .now) (a .strip .now)) (omega (arith, e .0, s .before .before .loop-test .taken)))
+    sym (rw (e .0) (min-eq-right (omega arith)))
 
 returns-2 : tie.Need-returns-2 Inv-loop μ-loop
-returns-2 c =
-    let a = c .before .before .before .before .args in
-    sym (le-leb (a .moves) (left (a .stock .now) (a .strip .now)) (omega (arith, c .before .loop .inv .1 .made, c .loop-test .left)))
+returns-2 c = omega (arith, c .before .loop .inv .1 .made, c .before .loop .inv .0, c .loop-test .left)
 
 loop-again : tie.Need-loop-again Inv-loop μ-loop
 loop-again c =
@@ -46,8 +42,8 @@ loop-again c =
     let p = b .before .before .before .pre in
     (omega (arith, s .before .before .loop-test .taken), on false _ _ _ _ _ (p .stock) (p .strip) (b .loop .inv .1) _ _ (s .step .ensures) (omega arith))
 
-pub has-moves-spec : {M : Type 1} → statement M
-has-moves-spec =
+pub walk-up-to-spec : {M : Type 1} → statement M
+walk-up-to-spec =
     tie.close
     (tie.spec
     Inv-loop
