@@ -43,9 +43,10 @@
  *       for nelfrupi_dictionary_next, none follows in the dictionary
  *   10  the walker is not the one of the strip                          the smallest kind whose direction is wrong
  *   11  a record of a sheet is missing, unknown, out of order or cut    the record's first byte, counted from 0, or
- *       short, a strip's padding is not zero, or bytes follow the end   that of the first byte after the end
+ *       short, a strip's padding is not zero, or bytes follow the end;  that of the first byte after the end
+ *       for rebuilding also, the sheet has under 82 bytes               0
  *   12  a move of a sheet is not the next one, or none is left          the record's first byte, counted from 0
- *   13  a sheet has under 83 + 3c bytes for c moves                     0
+ *   13  the buffer for a sheet has under 83 + 3c bytes for c moves      0
  *   14  the distance is below -2^63, or above 2^63 - 1                  0
  */
 #ifndef NELFRUPI_H
@@ -235,6 +236,21 @@ typedef struct {
  * The places of 1, 3, 5 and 6 are the table's: kinds of the stock and places of the strip that the sheet holds. Only
  * those of 11 and 12 are bytes of the sheet. */
 nelfrupi_readout nelfrupi_read_sheet(const uint8_t *sheet, size_t sheet_length, uint8_t *buffer, size_t length);
+
+typedef struct {
+    nelfrupi_refusal refusal;
+    uint64_t moves;     /* c */
+    uint64_t differing; /* how many of the c moves differed */
+    uint64_t first;     /* the first of these, counted from 1; 0 where none differed */
+} nelfrupi_rebuilt;
+
+/* Rebuilding: of a sheet that may be damaged behind its stock and its strip, the proper sheet of c moves, at the start of
+ * the second buffer, whose later bytes are as they were. With L bytes lent, c is (L - 82) / 3 rounded down, or the moves
+ * left in the book if fewer. A move differed where its three bytes are not those of the damaged sheet at the same offset;
+ * the end is written, and not compared. A sheet that reading takes comes out unchanged, with 0 differing.
+ * Refused: 11 at 0 for under 82 bytes; then, as in reading, 11, 1, 3 in the stock and 11, 5, 6, 11 in the strip; then 13
+ * for a second buffer of under 83 + 3c bytes. The second buffer is then as it was. */
+nelfrupi_rebuilt nelfrupi_rebuild(const uint8_t *sheet, size_t sheet_length, uint8_t *out, size_t out_length);
 
 #ifdef __cplusplus
 }

@@ -9,6 +9,8 @@ pub use Rattle.rebuilding.proofs.Theorems.{moves-is}
 pub use Rattle.rebuilding.proofs.Theorems.{rebuilt, as-written}
 -- how many of the c records differed and the first of these, from one list; no more than c, and the first is 0 exactly when none did
 pub use Rattle.rebuilding.proofs.Theorems.{differing-is, differing-within, first-zero, zero-first}
+-- the first differs and none before it does; where none differed, all are the damaged sheet's bytes
+pub use Rattle.rebuilding.proofs.Theorems.{first-right, none-right}
 -- a sheet that the reader accepts comes out unchanged with 0 differing, and c is its moves
 pub use Rattle.rebuilding.proofs.Theorems.{accepted-unchanged}
 -- what is rebuilt, the reader accepts; rebuilding it again changes nothing

@@ -1,9 +1,11 @@
-// Runs the marked strips of document 01 that are not proved, the marked numbers of 1 2 2, a strip for each refusal from 1 to 6, and the calls on
-// dictionary numbers where a dictionary ends. A line says the call, what it was lent and what came.
+// Runs the marked strips of document 01 that are not proved, the marked numbers of 1 2 2, a strip for each refusal from 1 to 6, the calls on
+// dictionary numbers where a dictionary ends, and damaged sheets where a book ends and where it has 2^64 strips or more. A line says the call, what it
+// was lent and what came.
 //
 // An array that many lines need is lent in one small function: each place that lends one makes the check of its function longer.
 mod filed;
 mod lines;
+mod rebuilt;
 mod say;
 
 use counting::first::first;
@@ -113,6 +115,36 @@ fn dictionaries() {
     filed::of_next(&[64], &mut [1; 64]);
 }
 
+// A sheet of 1 2 2 in 95 bytes, which have room for four moves.
+fn sheet_of_1_2_2(blocks: [u8; 5], moves: u64, spoiled: usize) {
+    rebuilt::of_rebuild(
+        &[1, 2, 2],
+        &blocks,
+        moves,
+        &mut [7; 95],
+        spoiled,
+        &mut [0; 95],
+    );
+}
+
+// The first strip of a book with 2^64 strips or more, and three moves.
+fn sheet_of_31_31_1(front: &mut [u8], sheet: &mut [u8], out: &mut [u8]) {
+    first(&[31, 31, 1], front);
+    rebuilt::of_rebuild(&[31, 31, 1], front, 3, sheet, 86, out);
+}
+
+// Four moves with the second spoiled, and with the end spoiled; one move left in the book, and other bytes behind its end; a spoiled strip; three moves
+// of the larger book, a sheet cut within its strip, and too little room.
+fn sheets() {
+    sheet_of_1_2_2([3, 3, 1, 2, 2], 4, 86);
+    sheet_of_1_2_2([3, 3, 1, 2, 2], 4, 94);
+    sheet_of_1_2_2([3, 2, 3, 2, 1], 1, 94);
+    sheet_of_1_2_2([3, 3, 1, 2, 2], 4, 18);
+    sheet_of_31_31_1(&mut [0; 63], &mut [0; 92], &mut [0; 92]);
+    sheet_of_31_31_1(&mut [0; 63], &mut [0; 81], &mut [0; 92]);
+    sheet_of_31_31_1(&mut [0; 63], &mut [0; 92], &mut [0; 91]);
+}
+
 fn main() {
     book_of_1_2_2();
     single_kinds();
@@ -122,4 +154,5 @@ fn main() {
     lines::of_count(&[2, 3, 5, 2, 3]);
     refused();
     dictionaries();
+    sheets();
 }

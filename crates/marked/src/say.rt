@@ -1,6 +1,7 @@
 // The parts of a printed line: the call with what it is lent, and what came.
 use io::print_decimal;
 use io::write_all;
+use rebuilding::Rebuilt;
 use running::run::Ran;
 use stock::Refusal;
 use walking::Moved;
@@ -50,6 +51,14 @@ pub fn call_on(name: &[u8], stock: &[u16], blocks: &[u8]) {
 pub fn call_at(name: &[u8], stock: &[u16], number: u64) {
     call(name, stock);
     said(b", number ", number);
+}
+
+// Rebuilding, with its counts, its strip and its moves, in so many bytes of which one is spoiled.
+pub fn call_sheet(stock: &[u16], blocks: &[u8], moves: u64, bytes: u64, spoiled: u64) {
+    call_on(b"Rebuild", stock, blocks);
+    said(b", moves ", moves);
+    said(b", bytes ", bytes);
+    said(b", spoiled at ", spoiled);
 }
 
 // The number and the place of a refusal: 0 and 0 where the call was not refused.
@@ -107,4 +116,17 @@ pub fn moves(ran: Ran) {
         return;
     }
     write_all(1, b", no\n");
+}
+
+// The refusal, or the moves, how many differed and the first of them.
+pub fn rebuilt(found: Rebuilt) {
+    let refused = found.refusal;
+    if refused.no != 0 {
+        refusal(refused);
+        return;
+    }
+    said(b": moves ", found.moves);
+    said(b", differing ", found.differing);
+    said(b", first ", found.first);
+    write_all(1, b"\n");
 }

@@ -1,13 +1,14 @@
 -- Proofs. The numbers of the records that differ, as they are found: how many, and the first.
-use Prim.Native.Nat.{ℕ, zero, suc, _+_, _≤_}
-use mathlib.Core.Path.{_≡_, refl}
-use mathlib.Core.Bool.{Bool, true, false}
+use Prim.Native.Nat.{ℕ, zero, suc, _+_, _≤_, _<_}
+use mathlib.Core.Path.{_≡_, refl, sym, ap, _∙_}
+use mathlib.Core.Bool.{Bool, true, false, true≢false}
 use mathlib.Core.List.{List, [], _∷_, _++_, append-nil}
 use native.Mathlib.Numerals.{add-one}
+use native.Mathlib.Decide.{ℕ-discrete}
 use native.Mathlib.Omega.{arith}
 use lib.ListN.{length, getD, length-append}
 use Rattle.rules.specs.Book.{same}
-use Rattle.rules.proofs.Places.{same-self}
+use Rattle.rules.proofs.Places.{same-self, same-true}
 use Rattle.rebuilding.specs.declared.differing.Found.{Found}
 use Rattle.rebuilding.specs.Rebuilding.{bytesBehind, unlessSame, differing}
 use Rattle.rebuilding.specs.Parts.{Holds, Joins}
@@ -36,6 +37,13 @@ joins-later f equal i e z = rw e record { joined = go }
 one-or-none : (b : Bool) (i : ℕ) → length (unlessSame b i) ≤ 1
 one-or-none true i = omega arith
 one-or-none false i = omega arith
+
+none-same : (b : Bool) (i : ℕ) → length (unlessSame b i) ≡ 0 → b ≡ true
+none-same true i e = refl
+none-same false i e = absurd (omega arith)
+
+not-same : (a b : List ℕ) → same a b ≡ false → a ≡ b → ⊥
+not-same a b f e = true≢false (sym (rw e (same-self b)) ∙ f)
 
 module _ (proper damaged : List ℕ) where
   pub none-yet : Holds (differing proper damaged 0) (record { many = 0; first = 0 })
@@ -69,6 +77,35 @@ module _ (proper damaged : List ℕ) where
       go [] true h e = refl
       go [] false h e = absurd (omega arith)
       go (x ∷ l) b h e = absurd (omega (arith, h e))
+
+  -- where none differs, each record is the same
+  pub all-same : (c : ℕ) → length (differing proper damaged c) ≡ 0 → (i : ℕ) → i < c → bytesBehind i proper ≡ bytesBehind i damaged
+  unfolding differing
+  all-same zero e i h = absurd (omega arith)
+  all-same (suc c) e i h =
+      let b = same (bytesBehind c proper) (bytesBehind c damaged) in
+      let n = length-append (differing proper damaged c) (unlessSame b (suc c)) in
+      elim (ℕ-discrete i c) [
+        | yes k ↦ rw k (same-true (bytesBehind c proper) (bytesBehind c damaged) (none-same b (suc c) (omega (arith, n, e))))
+        | no k ↦ all-same c (omega (arith, n, e)) i (omega arith)
+      ]
+
+  -- the record of move i + 1 differs, and of no move before it
+  abbrev FirstAt : ℕ → ℕ → Type 0
+  FirstAt c i = (i < c) × (bytesBehind i proper ≡ bytesBehind i damaged → ⊥) × ((j : ℕ) → j < i → bytesBehind j proper ≡ bytesBehind j damaged)
+
+  pub first-differs : (c i : ℕ) → getD (differing proper damaged c) 0 0 ≡ suc i → FirstAt c i
+  unfolding differing
+  first-differs zero i e = absurd (omega arith)
+  first-differs (suc c) i e = go (first-differs c i) (differing proper damaged c) refl (same (bytesBehind c proper) (bytesBehind c damaged)) refl e
+    where
+      go : (getD (differing proper damaged c) 0 0 ≡ suc i → FirstAt c i) → (l : List ℕ) → differing proper damaged c ≡ l → (b : Bool) → same (bytesBehind c proper) (bytesBehind c damaged) ≡ b
+          → getD (l ++ unlessSame b (suc c)) 0 0 ≡ suc i → FirstAt (suc c) i
+      go before [] d true f e = absurd (omega arith)
+      go before [] d false f e =
+          let n : i ≡ c = omega arith in
+          (omega arith, rw n (not-same (bytesBehind c proper) (bytesBehind c damaged) f), λ j h. all-same c (ap length d) j (omega arith))
+      go before (x ∷ l) d b f e = let p = before (rw d e) in (omega (arith, p .0), p .1, p .2)
 
 pub none-first : (l : List ℕ) → length l ≡ 0 → getD l 0 0 ≡ 0
 none-first [] e = refl

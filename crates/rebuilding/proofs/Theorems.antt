@@ -1,6 +1,6 @@
 -- Theorems on rebuilding, over its contract as the function states it: `Post` says which answers it allows for which input, and what it leaves in the second
 -- buffer. Where writing or reading a sheet comes in, over their contracts too.
-use Prim.Native.Nat.{ℕ, _+_, _-_, _*_, _/_, _≤_, min}
+use Prim.Native.Nat.{ℕ, suc, _+_, _-_, _*_, _/_, _≤_, _<_, min}
 use mathlib.Core.Path.{_≡_, sym, ap, _∙_}
 use mathlib.Core.List.{List, [], _∷_, _++_}
 use native.Mathlib.Omega.{arith}
@@ -31,8 +31,8 @@ use Rattle.reading.proofs.Theorems.{Writes, written-is-read, read-is-written}
 use Rattle.reading.proofs.reader.read_sheet.Kinds as reading
 use Rattle.reading.proofs.reader.read_sheet.Reads as reading-reads
 use Rattle.rebuilding.specs.declared.Rebuilt.{Rebuilt}
-use Rattle.rebuilding.specs.Rebuilding.{rebuiltMoves, properSheet, differing, rebuildNos, asRebuilt, rebuildAnswer, rebuildOut}
-use Rattle.rebuilding.proofs.Numbers.{few, first-none, none-first}
+use Rattle.rebuilding.specs.Rebuilding.{rebuiltMoves, properSheet, bytesBehind, differing, rebuildNos, asRebuilt, rebuildAnswer, rebuildOut}
+use Rattle.rebuilding.proofs.Numbers.{few, first-none, none-first, all-same, first-differs}
 use Rattle.rebuilding.proofs.Called.{front-is}
 use Rattle.rebuilding.proofs.Unchanged.{writes-long, proper-writes, unchanged}
 use Rattle.rebuilding.proofs.rebuild.rebuild.Kinds as rebuild
@@ -122,6 +122,14 @@ module _ (κs : Lfts 2) (a : Dens κs rebuild.ps) (r : Rebuilt) (t : AtExit (end
 
     pub zero-first : r .differing ≡ 0 → r .first ≡ 0
     zero-first f = differing-is .1 ∙ none-first differences (sym (differing-is .0) ∙ f)
+
+    -- where the first is move i + 1, its three bytes differ, and those of no move before it; where none differed, those of no move do
+    pub first-right : (i : ℕ) → r .first ≡ suc i
+        → (i < r .moves) × (bytesBehind i (properSheet sheet) ≡ bytesBehind i sheet → ⊥) × ((j : ℕ) → j < i → bytesBehind j (properSheet sheet) ≡ bytesBehind j sheet)
+    first-right i f = rw moves-named (first-differs (properSheet sheet) sheet (rebuiltMoves sheet) i (sym (differing-is .1) ∙ f))
+
+    pub none-right : r .differing ≡ 0 → (j : ℕ) → j < r .moves → bytesBehind j (properSheet sheet) ≡ bytesBehind j sheet
+    none-right f = rw moves-named (all-same (properSheet sheet) sheet (rebuiltMoves sheet) (sym (differing-is .0) ∙ f))
 
     -- the proper sheet of c moves, and the bytes past it as they were
     pub rebuilt : after ≡ sheetOf (sheetStock sheet) (sheetStrip sheet) (r .moves) ++ drop (83 + 3 * r .moves) out
