@@ -11,7 +11,7 @@ use contract.Lifetimes.{Lfts}
 use borrow.Fn.Kinds.{Dens, endedOf}
 use denote.Triple.Clauses.{AtExit}
 use Rattle.rules.specs.Stock.{sum}
-use Rattle.rules.specs.Refusals.{No, fine, firstOf, unless, roomNo}
+use Rattle.rules.specs.Refusals.{fine, firstOf, unless, roomNo}
 use Rattle.rules.specs.Outcome.{OneOutcome}
 use Rattle.rules.proofs.Refusals.{passed-both, passed-first, passed-fine, unless-refused, unless-passed, row-is, both-is, end-is, when-is}
 use Rattle.rules.proofs.Checks.{when-passed, passed-head}

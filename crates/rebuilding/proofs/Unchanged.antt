@@ -8,13 +8,12 @@ use borrow.Author.Tests.{le-ltb}
 use lib.ListN.{length, drop}
 use Rattle.rules.specs.Refusals.{No, fine, firstOf, roomNo}
 use Rattle.rules.proofs.Refusals.{passed-first}
-use Rattle.walking.specs.Answers.{left}
 use Rattle.sheets.proofs.Lengths.{sheet-long}
 use Rattle.records.specs.Records.{sheetStock, sheetStrip, firstTwoNos}
 use Rattle.records.proofs.FirstTwo.{first-two-stock, first-two-strip}
 use Rattle.reading.proofs.Exactly.{stock-back, strip-back, first-two-back}
 use Rattle.reading.proofs.Theorems.{Writes}
-use Rattle.rebuilding.specs.Rebuilding.{rebuiltMoves, properSheet, differing, rebuildNos, asRebuilt, rebuildAnswer, rebuildOut}
+use Rattle.rebuilding.specs.Rebuilding.{rebuiltMoves, properSheet, rebuildNos, asRebuilt, rebuildAnswer, rebuildOut}
 use Rattle.rebuilding.proofs.Numbers.{none-differ}
 
 pub writes-long : (counts s : List ℕ) (c : ℕ) (sheet : List ℕ) → Writes counts s c sheet → length sheet ≡ 83 + 3 * c
@@ -32,7 +31,7 @@ module _ (counts s : List ℕ) (c : ℕ) (sheet : List ℕ) (w : Writes counts s
   strip-is : sheetStrip sheet ≡ s
   strip-is = ap sheetStrip (w .is) ∙ strip-back counts s (w .stock) (w .strip) c
 
-  pub sound-written : firstOf (firstTwoNos sheet) ≡ fine
+  sound-written : firstOf (firstTwoNos sheet) ≡ fine
   sound-written = ap (λ (l : List ℕ). firstOf (firstTwoNos l)) (w .is) ∙ first-two-back counts s (w .stock) (w .strip) c
 
   moves-are : rebuiltMoves sheet ≡ c

@@ -1,5 +1,5 @@
 -- `rebuilding::rebuild::rebuild` meets its contract: by its length, by its first two records, or by what they hold.
-use mathlib.Core.Path.{_≡_, sym}
+use mathlib.Core.Path.{sym}
 use native.Mathlib.Omega.{arith}
 use borrow.Author.Needs.{needs}
 use lib.Seq.{length-take-le}
