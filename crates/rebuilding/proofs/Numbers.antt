@@ -46,12 +46,16 @@ not-same : (a b : List ℕ) → same a b ≡ false → a ≡ b → ⊥
 not-same a b f e = true≢false (sym (rw e (same-self b)) ∙ f)
 
 module _ (proper damaged : List ℕ) where
+  -- whether the record of move c + 1 is the same
+  abbrev alike : ℕ → Bool
+  alike c = same (bytesBehind c proper) (bytesBehind c damaged)
+
   pub none-yet : Holds (differing proper damaged 0) (record { many = 0; first = 0 })
   unfolding differing
   none-yet = record { many = refl; first = refl }
 
   -- with one record more
-  pub next : (c : ℕ) (f r : Found) (equal : Bool) → Holds (differing proper damaged c) f → equal ≡ same (bytesBehind c proper) (bytesBehind c damaged) → Joins f equal (c + 1) r
+  pub next : (c : ℕ) (f r : Found) (equal : Bool) → Holds (differing proper damaged c) f → equal ≡ alike c → Joins f equal (c + 1) r
       → Holds (differing proper damaged (c + 1)) r
   unfolding differing
   next c f r equal h e j = rw (add-one c) (rw (e, add-one c) at (j .joined (differing proper damaged c) h))
@@ -61,8 +65,7 @@ module _ (proper damaged : List ℕ) where
   unfolding differing
   few zero = omega arith
   few (suc c) =
-      let b = same (bytesBehind c proper) (bytesBehind c damaged) in
-      omega (arith, few c, length-append (differing proper damaged c) (unlessSame b (suc c)), one-or-none b (suc c))
+      omega (arith, few c, length-append (differing proper damaged c) (unlessSame (alike c) (suc c)), one-or-none (alike c) (suc c))
 
   pub fewer : (c : ℕ) (f : Found) → Holds (differing proper damaged c) f → f .many ≤ c
   fewer c f h = omega (arith, h .many, few c)
@@ -71,7 +74,7 @@ module _ (proper damaged : List ℕ) where
   pub first-none : (c : ℕ) → getD (differing proper damaged c) 0 0 ≡ 0 → length (differing proper damaged c) ≡ 0
   unfolding differing
   first-none zero e = refl
-  first-none (suc c) e = go (differing proper damaged c) (same (bytesBehind c proper) (bytesBehind c damaged)) (first-none c) e
+  first-none (suc c) e = go (differing proper damaged c) (alike c) (first-none c) e
     where
       go : (l : List ℕ) (b : Bool) → (getD l 0 0 ≡ 0 → length l ≡ 0) → getD (l ++ unlessSame b (suc c)) 0 0 ≡ 0 → length (l ++ unlessSame b (suc c)) ≡ 0
       go [] true h e = refl
@@ -83,10 +86,9 @@ module _ (proper damaged : List ℕ) where
   unfolding differing
   all-same zero e i h = absurd (omega arith)
   all-same (suc c) e i h =
-      let b = same (bytesBehind c proper) (bytesBehind c damaged) in
-      let n = length-append (differing proper damaged c) (unlessSame b (suc c)) in
+      let n = length-append (differing proper damaged c) (unlessSame (alike c) (suc c)) in
       elim (ℕ-discrete i c) [
-        | yes k ↦ rw k (same-true (bytesBehind c proper) (bytesBehind c damaged) (none-same b (suc c) (omega (arith, n, e))))
+        | yes k ↦ rw k (same-true (bytesBehind c proper) (bytesBehind c damaged) (none-same (alike c) (suc c) (omega (arith, n, e))))
         | no k ↦ all-same c (omega (arith, n, e)) i (omega arith)
       ]
 
@@ -97,9 +99,9 @@ module _ (proper damaged : List ℕ) where
   pub first-differs : (c i : ℕ) → getD (differing proper damaged c) 0 0 ≡ suc i → FirstAt c i
   unfolding differing
   first-differs zero i e = absurd (omega arith)
-  first-differs (suc c) i e = go (first-differs c i) (differing proper damaged c) refl (same (bytesBehind c proper) (bytesBehind c damaged)) refl e
+  first-differs (suc c) i e = go (first-differs c i) (differing proper damaged c) refl (alike c) refl e
     where
-      go : (getD (differing proper damaged c) 0 0 ≡ suc i → FirstAt c i) → (l : List ℕ) → differing proper damaged c ≡ l → (b : Bool) → same (bytesBehind c proper) (bytesBehind c damaged) ≡ b
+      go : (getD (differing proper damaged c) 0 0 ≡ suc i → FirstAt c i) → (l : List ℕ) → differing proper damaged c ≡ l → (b : Bool) → alike c ≡ b
           → getD (l ++ unlessSame b (suc c)) 0 0 ≡ suc i → FirstAt (suc c) i
       go before [] d true f e = absurd (omega arith)
       go before [] d false f e =

@@ -60,7 +60,7 @@ module _ (κs : Lfts 2) (a : Dens κs rebuild.ps) (r : Rebuilt) (t : AtExit (end
   unfolding rebuildAnswer
   no-is = ap (λ (r : Rebuilt). r .refusal .no) (h .0)
 
-  -- it refuses no more and no less than: the first two records are sound, and there is room. A sheet of under 82 bytes has no sound records
+  -- it is not refused exactly where the first two records are sound and there is room; a sheet of under 82 bytes has no sound records
   pub accepts : r .refusal .no ≡ 0 → (firstOf (firstTwoNos sheet) .0 ≡ 0) × (83 + 3 * rebuiltMoves sheet ≤ length out)
   unfolding rebuildNos
   accepts e =
@@ -82,6 +82,7 @@ module _ (κs : Lfts 2) (a : Dens κs rebuild.ps) (r : Rebuilt) (t : AtExit (end
       let u : unless (firstOf (rebuildNos sheet out)) none (rebuiltMoves sheet, differences) ≡ none = unless-refused none _ _ k in
       (ap (λ (r : Rebuilt). r .moves) (h .0) ∙ rw u, ap (λ (r : Rebuilt). r .differing) (h .0) ∙ rw u, ap (λ (r : Rebuilt). r .first) (h .0) ∙ rw u, h .1 ∙ unless-refused out _ _ k)
 
+  -- 2 is never met: the kinds of a sheet's stock run to the last count that is not 0
   pub never-two : r .refusal .no ≡ 2 → ⊥
   unfolding rebuildNos
   never-two e =

@@ -1,4 +1,4 @@
-// Writing a press sheet.
+// Writing a press sheet: the call, and the steps that rebuilding one has in common with it.
 pub mod moves;
 pub mod room;
 pub mod sheet;
