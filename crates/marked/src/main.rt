@@ -9,6 +9,7 @@ mod rebuilt;
 mod say;
 
 use counting::first::first;
+ghost use Prim.Native.Nat.{_≤_};
 
 // A strip of counts 1 2 2.
 fn of_1_2_2(blocks: [u8; 5]) {
@@ -127,10 +128,23 @@ fn sheet_of_1_2_2(blocks: [u8; 5], moves: u64, spoiled: usize) {
     );
 }
 
-// The first strip of a book with 2^64 strips or more, and three moves.
-fn sheet_of_31_31_1(front: &mut [u8], sheet: &mut [u8], out: &mut [u8]) {
-    first(&[31, 31, 1], front);
-    rebuilt::of_rebuild(&[31, 31, 1], front, 3, sheet, 86, out);
+// The first strip of a book with 2^64 strips or more, and three moves, in so many bytes and with so much room.
+fn sheet_of_31_31_1(bytes: usize, room: usize)
+    requires { ⌜ (bytes ≤ 92) × (room ≤ 92) ⌝ }
+{
+    let stock: [u16; 3] = [31, 31, 1];
+    let mut front: [u8; 63] = [0; 63];
+    let mut sheet: [u8; 92] = [0; 92];
+    let mut out: [u8; 92] = [0; 92];
+    first(&stock, &mut front);
+    rebuilt::of_rebuild(
+        &stock,
+        &front,
+        3,
+        &mut sheet[0..bytes],
+        86,
+        &mut out[0..room],
+    );
 }
 
 // Four moves with the second spoiled, and with the end spoiled; one move left in the book, and other bytes behind its end; a spoiled strip; three moves
@@ -140,9 +154,9 @@ fn sheets() {
     sheet_of_1_2_2([3, 3, 1, 2, 2], 4, 94);
     sheet_of_1_2_2([3, 2, 3, 2, 1], 1, 94);
     sheet_of_1_2_2([3, 3, 1, 2, 2], 4, 18);
-    sheet_of_31_31_1(&mut [0; 63], &mut [0; 92], &mut [0; 92]);
-    sheet_of_31_31_1(&mut [0; 63], &mut [0; 81], &mut [0; 92]);
-    sheet_of_31_31_1(&mut [0; 63], &mut [0; 92], &mut [0; 91]);
+    sheet_of_31_31_1(92, 92);
+    sheet_of_31_31_1(81, 92);
+    sheet_of_31_31_1(92, 91);
 }
 
 fn main() {
