@@ -24,7 +24,7 @@ fn refused(refusal: Refusal) -> Rebuilt
 }
 
 // The proper sheet of the stock and the strip that the damaged one holds, at the front of the second buffer. Nothing is written before it is known
-// that it has room.
+// that there is room.
 fn rebuild_from(sheet: &[u8], stock: &[u16], strip: &[u8], out: &mut [u8]) -> Rebuilt
     requires { ⌜ Sound (now sheet) (now stock) (now strip) ⌝ }
     ensures { λ r. ⌜ (r ≡ rebuildAnswer (now (sheet .entry)) (now (out .entry))) × (now (out .exit) ≡ rebuildOut (now (sheet .entry)) (now (out .entry))) ⌝ }
