@@ -15,6 +15,7 @@ use Rattle.rules.proofs.Strips.{strip-sum}
 use Rattle.walking.specs.Answers.{onward, left}
 use Rattle.sheets.specs.Sheets.{padded, stockRecord, stripRecord, moveRecords, sheetOf}
 use Rattle.sheets.proofs.Bodies.{padded-long}
+use Rattle.sheets.proofs.Lengths.{strip-fits}
 use Rattle.records.specs.Records.{sheetStock, stripBody, sheetStrip, recordNo, paddingNo, firstTwoNos}
 use Rattle.records.proofs.BodyLaws.{zeros, record-other, record-there}
 use Rattle.records.proofs.FirstTwo.{first-two-long, first-two-stock, first-two-strip}
@@ -46,7 +47,7 @@ module _ (counts s : List ℕ) (k : IsStock counts) (h : IsStrip counts s) (c : 
   long = strip-sum counts s h
 
   lb : length b ≡ 64
-  lb = padded-long 64 s (omega (arith, long, k .short))
+  lb = padded-long 64 s (strip-fits counts s k h)
 
   pub stock-back : sheetStock (sheetOf counts s c) ≡ counts
   unfolding sheetStock

@@ -7,8 +7,8 @@ use borrow.Author.Tests.{lt-ltb, le-ltb}
 use lib.ListN.{length, take, drop}
 use lib.Seq.{length-take-le, take-at, length-front}
 use Rattle.rules.specs.Refusals.{No, fine, firstOf}
-use Rattle.rules.proofs.Strips.{strip-sum}
 use Rattle.rules.proofs.Refusals.{first-stopped, first-passed, unless-refused}
+use Rattle.sheets.proofs.Lengths.{strip-fits}
 use Rattle.records.specs.declared.opening.Opening.{Opening}
 use Rattle.records.specs.Opened.{heldStock, heldStrip, Ready}
 use Rattle.following.specs.declared.Readout.{Readout}
@@ -70,4 +70,4 @@ module _ (strip t : List ℕ) (n : ℕ) (fits : n ≤ length strip) (kept : leng
   part-is = take-at t (drop n strip) n part-long
 
 pub strip-short : (o : Opening) → Ready o → o .refusal .no ≡ 0 → length (heldStrip o) ≤ 64
-strip-short o r z = omega (arith, strip-sum (heldStock o) (heldStrip o) (r .strip z), r .stock z .short)
+strip-short o r z = strip-fits (heldStock o) (heldStrip o) (r .stock z) (r .strip z)
