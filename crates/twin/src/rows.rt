@@ -1,4 +1,16 @@
 // Reading a book, a row of eight bytes for each strip, and working on a strip.
+ghost use Prim.Native.Nat.{min};
+ghost use mathlib.Core.Path.{_≡_};
+
+// The smaller of two numbers.
+pub fn least(one: usize, other: usize) -> usize
+    ensures { λ r. ⌜ r ≡ min one other ⌝ }
+{
+    if one < other {
+        return one;
+    }
+    other
+}
 
 // The number of the last strip.
 pub fn last(book: &[u8]) -> usize {

@@ -3,6 +3,7 @@ use crate::rows::copy;
 use crate::rows::directions_at;
 use crate::rows::exchange_gives;
 use crate::rows::last;
+use crate::rows::least;
 use crate::rows::same;
 use crate::rows::strip_at;
 use crate::single::directed;
@@ -16,12 +17,7 @@ use walker::open::open;
 
 // The moves that a list has room for, as far as the book goes.
 fn moves_of(list: &[u8], book: &[u8]) -> usize {
-    let room = list.len() / 2;
-    let most = last(book);
-    if room < most {
-        return room;
-    }
-    most
+    least(list.len() / 2, last(book))
 }
 
 // The number m further on than the first, or m further back than the last.

@@ -1,6 +1,7 @@
 // Rebuilding compared with a book, on the sheets of up to three moves from each of its strips: cut at each length, or going on behind their end; with each
 // byte spoiled in turn; and with every byte spoiled from one on.
 use crate::rows::last;
+use crate::rows::least;
 use crate::rows::same;
 use crate::sheets::MOST;
 use crate::sheets::ROOM;
@@ -16,7 +17,6 @@ use reading::reader::read_sheet;
 use rebuilding::Rebuilt;
 use rebuilding::rebuild::rebuild;
 use stock::Refusal;
-ghost use Prim.Native.Nat.{_≤_};
 
 // What stands in a second buffer before it is written, and behind the end of a sheet.
 const BEFORE: u8 = 238;
@@ -38,18 +38,9 @@ fn refused(refusal: Refusal) -> Outcome {
     }
 }
 
-fn smaller(one: usize, other: usize) -> usize
-    ensures { λ r. ⌜ (r ≤ one) × (r ≤ other) ⌝ }
-{
-    if one < other {
-        return one;
-    }
-    other
-}
-
 // The sheet of the first moves of another one.
 fn sheet_of(full: &Sheet, moves: usize) -> Sheet {
-    let end = 82 + 3 * smaller(moves, MOST);
+    let end = 82 + 3 * least(moves, MOST);
     let mut sheet: Sheet = [BEFORE; ROOM];
     let mut i: usize = 0;
     while i < end {
@@ -78,7 +69,7 @@ fn same_record(one: &Sheet, other: &Sheet, at: usize) -> bool {
 fn differ(full: &Sheet, damaged: &Sheet, moves: usize) -> Outcome {
     let mut differing: u64 = 0;
     let mut first: u64 = 0;
-    let mut m = smaller(moves, MOST);
+    let mut m = least(moves, MOST);
     while 0 < m {
         let number = m;
         m -= 1;
@@ -123,8 +114,8 @@ fn due(full: &Sheet, left: usize, damaged: &Sheet, length: usize, room: usize) -
     if no != 0 {
         return refused(refusal);
     }
-    let moves = smaller((length - 82) / 3, left);
-    if room < 83 + 3 * smaller(moves, MOST) {
+    let moves = least((length - 82) / 3, left);
+    if room < 83 + 3 * least(moves, MOST) {
         return refused(Refusal { no: 13, place: 0 });
     }
     differ(full, damaged, moves)
@@ -262,7 +253,7 @@ fn compare_bytes(tally: &mut Tally, full: &Sheet, left: usize, sheet: Sheet, len
 
 // The sheet of up to three moves, of one with all that are left.
 fn compare_sheet(tally: &mut Tally, full: &Sheet, left: usize) {
-    let moves = smaller(left, 3);
+    let moves = least(left, 3);
     let sheet = sheet_of(full, moves);
     compare_lengths(tally, full, left, &sheet);
     compare_bytes(tally, full, left, sheet, 83 + 3 * moves);
@@ -281,7 +272,7 @@ pub fn compare_sheets(tally: &mut Tally, stock: &[u16], book: &[u8], number: usi
         stock,
         book,
         Start { number, blocks },
-        smaller(left, MOST),
+        least(left, MOST),
     );
     compare_sheet(tally, &full, left);
 }

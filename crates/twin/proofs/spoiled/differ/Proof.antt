@@ -17,7 +17,7 @@ differ-spec =
     Inv-loop
     μ-loop
     (λ c κs. tt)
-    (λ c. omega (arith, c .smaller .ensures))
+    (λ c. omega (arith, c .least .ensures))
     (λ c. omega arith)
     (λ c. omega arith)
     (λ c. omega arith)
