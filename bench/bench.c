@@ -4,6 +4,7 @@
  *     bench [MILLIONS]    at most so many millions of moves of a stock; without it, as many as the table says */
 #include "calls.h"
 #include "moves.h"
+#include "pairs.h"
 #include "sheets.h"
 
 int main(int count, char **arguments)
@@ -23,6 +24,7 @@ int main(int count, char **arguments)
     }
     print_moves(works, most);
     print_all_calls(works);
+    print_pairs(works);
     print_sheets(works);
     return 0;
 }

@@ -317,6 +317,48 @@ CALLED bool checked_open(const uint16_t *stock, size_t kinds, const uint8_t *str
     return true;
 }
 
+typedef struct {
+    uint8_t which, kind;
+} plain_compared;
+
+/* Which of two words of a blocks has the kind's pattern first, in the kind's list or in the reversed one. */
+static uint8_t word_order(const uint8_t *one, const uint8_t *two, size_t a, uint8_t kind, bool back)
+{
+    bool turned = false;
+    while (a-- > 0) {
+        bool own = one[a] == kind;
+        if (own != (two[a] == kind)) {
+            return own == back ? 2 : 1;
+        }
+        back ^= own && turned;
+        turned = !own && !turned;
+    }
+    return 3;
+}
+
+/* Which of two strips stands first in the book, 3 where they are the same, and the first kind from 2 upward at which their
+ * reduced strips differ; 0 and 0 where a strip or the stock is not right. */
+CALLED plain_compared checked_which(const uint16_t *stock, size_t kinds, const uint8_t *first, const uint8_t *second,
+                                    size_t n)
+{
+    if (!is_right(stock, kinds, first, n) || !is_right(stock, kinds, second, n)) {
+        return (plain_compared){0, 0};
+    }
+    bool odd = false;
+    size_t below = stock[0];
+    for (uint8_t kind = 2; kind <= kinds; kind++) {
+        uint8_t one[64], two[64];
+        size_t a = reduce(first, n, kind, one);
+        reduce(second, n, kind, two);
+        if (memcmp(one, two, a) != 0) {
+            return (plain_compared){word_order(one, two, a, kind, odd), kind};
+        }
+        odd ^= has_odd_index(one, a, kind, below);
+        below = a;
+    }
+    return (plain_compared){3, 0};
+}
+
 /* One move on by the recursion, of a strip and directions that are looked at first. */
 CALLED bool checked_walk(const uint16_t *stock, size_t kinds, uint8_t *strip, size_t n, bool *back, uint8_t *places)
 {

@@ -14,7 +14,8 @@
 /* So many strips that the processor does not learn by heart which way each branch goes on them. */
 enum { STRIPS = 4096 };
 
-enum { STOCKS = 5 };
+/* The last of the stocks is sixteen 4s. */
+enum { STOCKS = 5, SIXTEEN = STOCKS - 1 };
 
 typedef struct {
     const char *title;

@@ -132,9 +132,12 @@ enum { NELFRUPI_FIRST = 1, NELFRUPI_SECOND = 2, NELFRUPI_EQUAL = 3 };
 typedef struct {
     nelfrupi_refusal refusal;
     uint8_t which; /* 1, 2 or 3 as named above; 0 where it is refused */
+    uint8_t kind;  /* the kind at which the two part; 0 where they are equal, or where it is refused */
 } nelfrupi_compared;
 
-/* Which: the strip that stands first in the book, or that the two are equal, also where T is 2^64 or more.
+/* Which: the strip that stands first in the book, or that the two are equal, also where T is 2^64 or more; and the first
+ * kind from 2 upward at which the two differ when all higher kinds are taken out of both. That kind settles the order,
+ * and none above it is looked at.
  * Refused: 1, 2, 3; then 4, 5, 6 of the first strip; then 4, 5, 6 of the second. */
 nelfrupi_compared nelfrupi_which(const uint16_t *stock, size_t kinds, const uint8_t *first, size_t first_length,
                                  const uint8_t *second, size_t second_length);

@@ -1,6 +1,6 @@
 -- Proofs. Which of two numbers comes first: 1, 2 or 3, each in its case and in no other.
 use Prim.Native.Nat.{ℕ, _<_}
-use mathlib.Core.Path.{_≡_}
+use mathlib.Core.Path.{_≡_, sym, _∙_}
 use native.Mathlib.Decide.{decLt}
 use native.Mathlib.Omega.{arith}
 use borrow.Author.Tests.{lt-ltb, le-ltb}
@@ -37,3 +37,10 @@ module _ (m n : ℕ) where
     | yes l ↦ omega (arith, which-first l)
     | no l ↦ elim (decLt n m) [ yes k ↦ omega (arith, which-second k) | no k ↦ omega (arith, which-equal (omega arith)) ]
   ]
+
+-- two other numbers that stand to each other as these do
+pub which-as : (m n x y : ℕ) → (m < n → x < y) → (n < m → y < x) → (m ≡ n → x ≡ y) → whichOf m n ≡ whichOf x y
+which-as m n x y less more equal = elim (decLt m n) [
+  | yes l ↦ which-first m n l ∙ sym (which-first x y (less l))
+  | no l ↦ elim (decLt n m) [ yes k ↦ which-second m n k ∙ sym (which-second x y (more k)) | no k ↦ which-equal m n (omega arith) ∙ sym (which-equal x y (equal (omega arith))) ]
+]

@@ -7,22 +7,26 @@ use native.Mathlib.Decide.{ℕ-discrete}
 use native.Mathlib.Omega.{arith}
 use borrow.Author.Tests.{ne-eqb}
 use lib.Dec.{eqb}
+use lib.ListN.{length, take}
 use contract.Lifetimes.{Lfts}
 use borrow.Fn.Kinds.{Dens, endedOf}
 use denote.Triple.Clauses.{AtExit}
 use Rattle.rules.specs.Stock.{IsStock, IsStrip}
-use Rattle.rules.specs.Book.{book, placeIn}
+use Rattle.rules.specs.Book.{book, placeIn, reduced}
 use Rattle.rules.specs.Refusals.{No, firstOf, unless, pairNos}
 use Rattle.rules.specs.Outcome.{OneAnswer}
 use Rattle.rules.proofs.Listed.{same-place}
 use Rattle.rules.proofs.Strips.{strip-sum, listed}
 use Rattle.rules.proofs.Places.{place-number}
+use Rattle.rules.proofs.Reduced.{prefix-strip}
 use Rattle.rules.proofs.Refusals.{unless-refused, unless-passed}
 use Rattle.rules.proofs.Checks.{some-block, accepted-pair, accepted-pair-back}
 use Rattle.comparing.specs.declared.which.Compared.{Compared}
-use Rattle.comparing.specs.Order.{whichOf}
+use Rattle.comparing.specs.Order.{whichOf, partingKind}
 use Rattle.comparing.specs.Answers.{whichAnswer, Lent, EmptyPart, secondIf, named, IsEarlier}
 use Rattle.comparing.proofs.Numbers.{which-first, which-second, which-equal, only-second, only-equal}
+use Rattle.comparing.proofs.Ahead.{decides}
+use Rattle.comparing.proofs.Parting.{none-same, same-none, from-two, to-last, differ-at, alike-below}
 use Rattle.comparing.proofs.Handed.{order, refused}
 use Rattle.comparing.proofs.which.which.Kinds as which
 use Rattle.comparing.proofs.which.which.Reads as which-reads
@@ -50,6 +54,10 @@ module _ (κs : Lfts 3) (a : Dens κs which.ps) (r : Compared) (s : AtExit (ende
   unfolding whichAnswer
   which-no = ap (λ (r : Compared). r .refusal .no) h
 
+  kind-is : r .kind ≡ unless (firstOf (pairNos counts first second)) 0 (partingKind counts first second)
+  unfolding whichAnswer
+  kind-is = ap (λ (r : Compared). r .kind) h
+
   which-is : r .which ≡ unless (firstOf (pairNos counts first second)) 0 (whichOf (placeIn (book counts) first) (placeIn (book counts) second))
   unfolding whichAnswer
   which-is = ap (λ (r : Compared). r .which) h
@@ -61,11 +69,12 @@ module _ (κs : Lfts 3) (a : Dens κs which.ps) (r : Compared) (s : AtExit (ende
   pub which-accepted : IsStock counts → IsStrip counts first → IsStrip counts second → r .refusal .no ≡ 0
   which-accepted stock one two = which-no ∙ accepted-pair-back counts first second stock one two
 
-  pub which-refused-zero : (r .refusal .no ≡ 0 → ⊥) → r .which ≡ 0
-  which-refused-zero e = which-is ∙ unless-refused 0 _ _ (λ k. e (which-no ∙ k))
+  pub which-refused-zero : (r .refusal .no ≡ 0 → ⊥) → (r .which ≡ 0) × (r .kind ≡ 0)
+  which-refused-zero e = (which-is ∙ unless-refused 0 _ _ (λ k. e (which-no ∙ k)), kind-is ∙ unless-refused 0 _ _ (λ k. e (which-no ∙ k)))
 
   module _ (e : r .refusal .no ≡ 0) where
-    order-is : r .which ≡ whichOf (placeIn (book counts) first) (placeIn (book counts) second)
+    -- the order of the two numbers, that is, of the strips in full
+    pub order-is : r .which ≡ whichOf (placeIn (book counts) first) (placeIn (book counts) second)
     order-is = which-is ∙ unless-passed 0 _ _ (sym which-no ∙ e)
 
     pub first-is-1 : placeIn (book counts) first < placeIn (book counts) second → r .which ≡ 1
@@ -83,6 +92,44 @@ module _ (κs : Lfts 3) (a : Dens κs which.ps) (r : Compared) (s : AtExit (ende
         let one = which-accepts e .1 in
         let two = which-accepts e .2 in
         same-place (listed counts) first second one two (sym (place-number counts first one) ∙ only-equal _ _ (sym order-is ∙ k) ∙ place-number counts second two)
+
+    -- ---- the kind at which the two part
+
+    part-is : r .kind ≡ partingKind counts first second
+    part-is = kind-is ∙ unless-passed 0 _ _ (sym which-no ∙ e)
+
+    some : 0 < length counts
+    some = which-accepts e .0 .some
+
+    -- 0 exactly where they are equal
+    pub kind-zero-same : r .kind ≡ 0 → first ≡ second
+    kind-zero-same z = none-same counts first second some (which-accepts e .1) (which-accepts e .2) (sym part-is ∙ z)
+
+    pub same-kind-zero : first ≡ second → r .kind ≡ 0
+    same-kind-zero k = part-is ∙ same-none counts first second some (which-accepts e .1) (which-accepts e .2) k
+
+    -- below it the reduced strips agree
+    pub kind-before : (j : ℕ) → j < r .kind → reduced j first ≡ reduced j second
+    kind-before j l = alike-below counts first second some (which-accepts e .1) (which-accepts e .2) (λ z. omega (arith, part-is, z, l)) j (rw part-is at l)
+
+    -- where they are not equal it is one of the kinds from 2 to the last, and at it they differ
+    module _ (ne : r .kind ≡ 0 → ⊥) where
+      parts : partingKind counts first second ≡ 0 → ⊥
+      parts z = ne (part-is ∙ z)
+
+      pub kind-from-two : (2 ≤ r .kind) × (r .kind ≤ length counts)
+      kind-from-two = rw part-is (from-two counts first second some (which-accepts e .1) (which-accepts e .2) parts, to-last counts first second some (which-accepts e .1) (which-accepts e .2) parts)
+
+      pub kind-differs : reduced (r .kind) first ≡ reduced (r .kind) second → ⊥
+      kind-differs = rw part-is (differ-at counts first second some (which-accepts e .1) (which-accepts e .2) parts)
+
+      -- and there the order is settled: it is that of the reduced strips in the book of the kinds up to it
+      pub kind-decides : r .which ≡ whichOf (placeIn (book (take (r .kind) counts)) (reduced (r .kind) first)) (placeIn (book (take (r .kind) counts)) (reduced (r .kind) second))
+      kind-decides =
+          let one = which-accepts e .1 in
+          let two = which-accepts e .2 in
+          let l = kind-from-two .1 in
+          order-is ∙ sym (rw (place-number (take (r .kind) counts) (reduced (r .kind) first) (prefix-strip counts first one (r .kind) l), place-number (take (r .kind) counts) (reduced (r .kind) second) (prefix-strip counts second two (r .kind) l)) (decides counts first second one two (r .kind) l kind-differs))
 
 -- ---- Earlier
 

@@ -6,18 +6,21 @@ use mathlib.Core.List.{List, []}
 use denote.Ref.{RefT}
 use lib.Dec.{eqb}
 use Rattle.rules.specs.Book.{book, placeIn}
-use Rattle.rules.specs.Refusals.{No, firstOf, unless, answer, pairNos}
+use Rattle.rules.specs.Refusals.{No, firstOf, unless, pairNos}
 use Rattle.stock.specs.Refused.{refusal}
 use Rattle.comparing.specs.declared.which.Compared.{Compared}
-use Rattle.comparing.specs.Order.{whichOf}
+use Rattle.comparing.specs.Order.{whichOf, partingKind}
 
--- ---- Which: the strip with the smaller number; refusals 1, 2, 3, then 4, 5, 6 for the first strip, then for the second
+-- ---- Which: the strip with the smaller number, and the kind at which the two part; refusals 1, 2, 3, then 4, 5, 6 for the first strip, then for the second
 
-abbrev pub asCompared : No → ℕ → Compared
-asCompared r w = record { refusal = refusal r; which = w }
+abbrev pub asCompared : No → ℕ → ℕ → Compared
+asCompared r w k = record { refusal = refusal r; which = w; kind = k }
 
+-- refused, both are 0
 unfoldable pub whichAnswer : List ℕ → List ℕ → List ℕ → Compared
-whichAnswer counts first second = answer asCompared (pairNos counts first second) 0 (whichOf (placeIn (book counts) first) (placeIn (book counts) second))
+whichAnswer counts first second =
+    let r = firstOf (pairNos counts first second) in
+    asCompared r (unless r 0 (whichOf (placeIn (book counts) first) (placeIn (book counts) second))) (unless r 0 (partingKind counts first second))
 
 -- ---- Earlier: one of the two lent strips itself, by its pointer and not only by its content; refused as Which
 

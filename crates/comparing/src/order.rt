@@ -1,52 +1,47 @@
-// The order of two strips in the book of their stock, also where their numbers do not fit 64 bits.
-use choose::choose;
-use numbering::numbered_by;
-use pattern::index_of;
+// The order of two strips in the book of their stock, and the kind at which they part. No number is worked out, so it may be 2^64 or more.
+use crate::letters::order_of;
+use crate::which::Compared;
+use pattern::odd_index_of;
 use pattern::reduce;
-ghost use Prim.Native.Nat.{_≤_};
+use stock::Refusal;
 ghost use mathlib.Core.Path.{_≡_};
-ghost use lib.ListN.{length};
-ghost use Rattle.rules.specs.Stock.{binom, IsStock, IsStrip};
-ghost use Rattle.rules.specs.Book.{book, placeIn, reduced};
-ghost use Rattle.rules.proofs.Index.{index, rests};
-ghost use Rattle.comparing.specs.Order.{whichOf};
+ghost use Rattle.rules.specs.Stock.{IsStock, IsStrip};
+ghost use Rattle.rules.specs.Book.{book, placeIn};
+ghost use Rattle.rules.specs.Refusals.{fine};
+ghost use Rattle.comparing.specs.Order.{whichOf, partingKind};
+ghost use Rattle.comparing.specs.Answers.{asCompared};
 
-// The index of a kind's pattern in a strip that has so many blocks of the kinds before it.
-fn index_at(patterns: u64, strip: &[u8], kind: u8, below: usize) -> u64
-    requires { ⌜ (patterns ≡ binom (length (reduced kind (now strip))) below) × (length (now strip) ≤ 64) × (below ≡ rests kind (reduced kind (now strip))) ⌝ }
-    ensures { λ r. ⌜ r ≡ index kind (reduced kind (now (strip .entry))) ⌝ }
-{
-    let mut word = [0; 64];
-    let n = reduce(strip, kind, &mut word);
-    index_of(patterns, &word[..n], kind, below)
-}
-
-// 1 where the first strip has the smaller number, 2 where the second has, 3 where they are the same strip.
-// As long as the two are level only the parity of their common number is kept: it alone decides how the next kind's patterns run.
-pub fn compare(stock: &[u16], first: &[u8], second: &[u8]) -> u8
+// The kinds are looked at from 2 upward, and none after the first at which the reduced strips differ: its patterns decide. Kind 1 alone has one strip.
+// As long as the two are alike only the parity of their common number is kept, since it alone says which way the next kind's patterns run.
+pub fn compare(stock: &[u16], first: &[u8], second: &[u8]) -> Compared
     requires { ⌜ IsStock (now stock) × IsStrip (now stock) (now first) × IsStrip (now stock) (now second) ⌝ }
-    ensures { λ r. ⌜ r ≡ whichOf (placeIn (book (now (stock .entry))) (now (first .entry))) (placeIn (book (now (stock .entry))) (now (second .entry))) ⌝ }
+    ensures { λ r. ⌜ r ≡ asCompared fine (whichOf (placeIn (book (now (stock .entry))) (now (first .entry))) (placeIn (book (now (stock .entry))) (now (second .entry)))) (partingKind (now (stock .entry)) (now (first .entry)) (now (second .entry))) ⌝ }
 {
-    let mut parity: u64 = 0;
-    let mut below: usize = 0;
-    let mut j: usize = 0;
+    let mut one = [0; 64];
+    let mut two = [0; 64];
+    let mut odd = false;
+    let mut below = stock[0] as usize;
+    let mut j: usize = 1;
     while j < stock.len() {
-        let n = below + stock[j] as usize;
         j += 1;
         let kind = j as u8;
-        let patterns = choose(n, below);
-        let at_first = index_at(patterns, first, kind, below);
-        let at_second = index_at(patterns, second, kind, below);
-        let first_place = numbered_by(patterns, parity, at_first);
-        let second_place = numbered_by(patterns, parity, at_second);
-        if first_place < second_place {
-            return 1;
+        let n = reduce(first, kind, &mut one);
+        let m = reduce(second, kind, &mut two);
+        let order = order_of(&one[..n], &two[..m], kind, odd);
+        if order != 3 {
+            return Compared {
+                refusal: Refusal { no: 0, place: 0 },
+                which: order,
+                kind: kind,
+            };
         }
-        if second_place < first_place {
-            return 2;
-        }
-        parity = first_place % 2;
+        let odd_index = odd_index_of(&one[..n], kind, below);
+        odd = odd != odd_index;
         below = n;
     }
-    3
+    Compared {
+        refusal: Refusal { no: 0, place: 0 },
+        which: 3,
+        kind: 0,
+    }
 }

@@ -155,7 +155,7 @@ to-book-refuses κs a r s h = record { named = ap (λ (r : Filed). r .refusal) h
 -- and only then is it empty (`earlier-shows`)
 
 pub which-refuses : (κs : Lfts 3) (a : Dens κs which.ps) (r : Compared) (s : AtExit (endedOf 3 which.ps which.r) κs) → which-reads.Post κs a r s
-    → Refuses (pairNos (a .0 .now) (a .1 .0 .now) (a .1 .1 .0 .now)) (r .refusal) (r .which ≡ 0)
+    → Refuses (pairNos (a .0 .now) (a .1 .0 .now) (a .1 .1 .0 .now)) (r .refusal) ((r .which ≡ 0) × (r .kind ≡ 0))
 unfolding whichAnswer
 which-refuses κs a r s h = record { named = ap (λ (r : Compared). r .refusal) h; left = which-refused-zero κs a r s h }
 

@@ -6,4 +6,5 @@ pub mod Drawers
 pub mod Pedal
 pub mod SoldOut
 pub mod Coffee
+pub mod SortingTable
 pub mod Outcomes

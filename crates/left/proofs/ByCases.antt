@@ -1,7 +1,7 @@
 -- Proofs. The answers of the rule from the left by the tests of the code.
 use Prim.Native.Nat.{ℕ, pred, _+_, _-_, _≤_, _<_}
-use mathlib.Core.Path.{_≡_, refl, sym, _∙_}
-use mathlib.Core.Bool.{Bool, true, false, not, cond, Bool·beq}
+use mathlib.Core.Path.{_≡_, refl, _∙_}
+use mathlib.Core.Bool.{Bool, true, false, cond}
 use mathlib.Core.Option.{none, some}
 use mathlib.Core.List.{List, _∷_}
 use native.Mathlib.Numerals.{add-one, sub-one}
@@ -16,19 +16,6 @@ use Rattle.rules.proofs.Endings.{gate-open}
 use Rattle.rules.proofs.Left.{ahead, near, far}
 use Rattle.moves.specs.declared.Step.{Step}
 use Rattle.moves.specs.Steps.{step}
-
--- two bools that are tested for being the same
-pub same : (a b : Bool) → not (Bool·beq a b) ≡ false → a ≡ b
-same true true h = refl
-same true false h = h
-same false true h = sym h
-same false false h = refl
-
-pub other : (a b : Bool) → not (Bool·beq a b) ≡ true → a ≡ not b
-other true true h = sym h
-other true false h = refl
-other false true h = refl
-other false false h = h
 
 abbrev at : ℕ → ℕ → Step
 at low high = step (some (low, high))

@@ -10,7 +10,7 @@ ghost use Rattle.rules.proofs.Snake.{numbered};
 ghost use Rattle.counting.specs.Patterns.{ArePatterns};
 
 // One kind more: the number before times the patterns of the kind, and the index, counted backward where the number before is odd.
-pub fn numbered_by(patterns: u64, number: u64, index: u64) -> u64
+fn numbered_by(patterns: u64, number: u64, index: u64) -> u64
     requires { ⌜ (index < patterns) × (number * patterns + patterns ≤ 2 ^ 64) ⌝ }
     ensures { λ r. ⌜ r ≡ numbered patterns number index ⌝ }
 {

@@ -2,19 +2,17 @@
 use Prim.Native.Nat.{ℕ, suc, _+_, _-_, _≤_, _<_}
 use mathlib.Core.Path.{_≡_, refl, sym, ap, _∙_}
 use mathlib.Core.Bool.{Bool, true, false, not, Bool·beq}
-use mathlib.Core.List.{List, _∷_, reverse}
+use mathlib.Core.List.{List}
 use native.Mathlib.Omega.{arith}
-use borrow.Author.Tests.{eq-eqb, ne-eqb}
 use lib.ListN.{length, getD, take}
 use lib.Seq.{take-all, length-take-le}
 use Rattle.rules.specs.Stock.{binom}
-use Rattle.rules.specs.Book.{K, R, Word, odd}
+use Rattle.rules.specs.Book.{odd}
 use Rattle.rules.proofs.Listed.{face, flip, flip-not, flip-false, flip-flip, differs}
-use Rattle.rules.proofs.Patterns.{countR, rank, rankE, listed-L, binom-self, rank-K, rank-R}
-use Rattle.rules.proofs.Books.{pattern}
-use Rattle.rules.proofs.Last.{reverse-take}
+use Rattle.rules.proofs.Patterns.{countR, rank, listed-L, binom-self, rank-K, rank-R}
 use Rattle.rules.proofs.Numbers.{odd-add}
-use Rattle.rules.proofs.Index.{index, rests, rests-le, rests-turned, pattern-reverse, length-turned}
+use Rattle.rules.proofs.Index.{index, rests, rests-le, rests-turned}
+use Rattle.rules.proofs.LettersLeft.{lettersLeft, left-whole, left-long, left-K, left-R}
 
 -- ---- parities
 
@@ -44,62 +42,42 @@ odd-back n i h =
     go true false = refl
     go true true = refl
 
--- ---- the word, last letter first
-
-abbrev turnedWord : ℕ → List ℕ → ℕ → Word
-turnedWord j w a = pattern j (reverse (take a w))
-
-module _ (j : ℕ) (w : List ℕ) (a : ℕ) (h : a < length w) where
-  left-letters : length (turnedWord j w a) ≡ a
-  left-letters = length-turned j (take a w) ∙ length-take-le a w (omega arith)
-
-  next-K : getD w a 0 ≡ j → turnedWord j w (suc a) ≡ K ∷ turnedWord j w a
-  unfolding pattern
-  next-K k = rw (reverse-take w a 0 h, eq-eqb _ j k)
-
-  next-R : (getD w a 0 ≡ j → ⊥) → turnedWord j w (suc a) ≡ R ∷ turnedWord j w a
-  unfolding pattern
-  next-R k = rw (reverse-take w a 0 h, ne-eqb _ j k)
-
 -- ---- the loop
 
 pub record FromEnd (j : ℕ) (w : List ℕ) (a b : ℕ) (turned so-far : Bool) : Type 0 where
   pub left : a ≤ length w
   pub rest : b ≡ rests j (take a w)
-  pub parity : odd (index j w) ≡ flip so-far (odd (rank turned (turnedWord j w a)))
+  pub parity : odd (index j w) ≡ flip so-far (odd (rank turned (lettersLeft j w a)))
 
 pub start : (j : ℕ) (w : List ℕ) (b : ℕ) → b ≡ rests j w → FromEnd j w (length w) b false false
-unfolding index rankE
-start j w b h =
-    let e = take-all (length w) w (omega arith) in
-    record { left = omega arith; rest = rw e h; parity = rw e (ap (λ (p : Word). odd (rank false p)) (pattern-reverse j w)) }
+start j w b h = record { left = omega arith; rest = rw (take-all (length w) w (omega arith)) h; parity = ap odd (left-whole j w) }
 
 module _ {j : ℕ} {w : List ℕ} {a b : ℕ} {turned so-far : Bool} (s : FromEnd j w (suc a) b turned so-far) where
-  counted : b ≡ countR (turnedWord j w (suc a))
+  counted : b ≡ countR (lettersLeft j w (suc a))
   counted = s .rest ∙ rests-turned j (take (suc a) w)
 
   module _ (k : getD w a 0 ≡ j) where
-    same-rest : b ≡ countR (turnedWord j w a)
-    same-rest = counted ∙ ap countR (next-K j w a (omega (arith, s .left)) k)
+    same-rest : b ≡ countR (lettersLeft j w a)
+    same-rest = counted ∙ ap countR (left-K j w a (omega (arith, s .left)) k)
 
-    parity-K : odd (index j w) ≡ flip so-far (odd (face turned (binom a b) (rank false (turnedWord j w a))))
-    parity-K = s .parity ∙ ap (λ (n : ℕ). flip so-far (odd n)) (ap (rank turned) (next-K j w a (omega (arith, s .left)) k) ∙ rank-K turned a b (turnedWord j w a) (left-letters j w a (omega (arith, s .left)), sym same-rest))
+    parity-K : odd (index j w) ≡ flip so-far (odd (face turned (binom a b) (rank false (lettersLeft j w a))))
+    parity-K = s .parity ∙ ap (λ (n : ℕ). flip so-far (odd n)) (ap (rank turned) (left-K j w a (omega (arith, s .left)) k) ∙ rank-K turned a b (lettersLeft j w a) (left-long j w a (omega (arith, s .left)), sym same-rest))
 
     rest-K : b ≡ rests j (take a w)
     rest-K = same-rest ∙ sym (rests-turned j (take a w))
 
-    below-K : rank false (turnedWord j w a) < binom a b
-    below-K = listed-L false a b .below (turnedWord j w a) (left-letters j w a (omega (arith, s .left)), sym same-rest)
+    below-K : rank false (lettersLeft j w a) < binom a b
+    below-K = listed-L false a b .below (lettersLeft j w a) (left-long j w a (omega (arith, s .left)), sym same-rest)
 
   module _ (k : getD w a 0 ≡ j → ⊥) where
-    one-less : b ≡ suc (countR (turnedWord j w a))
-    one-less = counted ∙ ap countR (next-R j w a (omega (arith, s .left)) k)
+    one-less : b ≡ suc (countR (lettersLeft j w a))
+    one-less = counted ∙ ap countR (left-R j w a (omega (arith, s .left)) k)
 
-    parity-R : odd (index j w) ≡ flip so-far (flip (odd (binom a b)) (odd (rank (not turned) (turnedWord j w a))))
+    parity-R : odd (index j w) ≡ flip so-far (flip (odd (binom a b)) (odd (rank (not turned) (lettersLeft j w a))))
     parity-R =
-        let p = turnedWord j w a in
-        let e : rank turned (turnedWord j w (suc a)) ≡ binom a b + rank (not turned) p =
-        ap (rank turned) (next-R j w a (omega (arith, s .left)) k) ∙ rank-R turned a (countR p) p (left-letters j w a (omega (arith, s .left)), refl) ∙ rw (← one-less) in
+        let p = lettersLeft j w a in
+        let e : rank turned (lettersLeft j w (suc a)) ≡ binom a b + rank (not turned) p =
+        ap (rank turned) (left-R j w a (omega (arith, s .left)) k) ∙ rank-R turned a (countR p) p (left-long j w a (omega (arith, s .left)), refl) ∙ rw (← one-less) in
         s .parity ∙ ap (λ (n : ℕ). flip so-far (odd n)) e ∙ ap (flip so-far) (odd-add (binom a b) (rank (not turned) p))
 
     rest-R : b - 1 ≡ rests j (take a w)
@@ -136,8 +114,8 @@ module _ {j : ℕ} {w : List ℕ} {a b : ℕ} {turned so-far : Bool} (s : FromEn
 pub end : {j : ℕ} {w : List ℕ} {a b : ℕ} {turned so-far : Bool} → FromEnd j w a b turned so-far → a ≤ b → so-far ≡ odd (index j w)
 unfolding odd
 end {j} {w} {a} {b} {turned} {so-far} s h =
-    let p = turnedWord j w a in
-    let l : length p ≡ a = length-turned j (take a w) ∙ length-take-le a w (s .left) in
+    let p = lettersLeft j w a in
+    let l : length p ≡ a = left-long j w a (s .left) in
     let c : countR p ≡ a = omega (arith, s .rest, rests-turned j (take a w), rests-le j (take a w), length-take-le a w (s .left)) in
     let z : rank turned p ≡ 0 = omega (arith, rw (binom-self a) at (listed-L turned a a .below p (l, c))) in
     sym (s .parity ∙ ap (λ (n : ℕ). flip so-far (odd n)) z ∙ flip-false so-far)

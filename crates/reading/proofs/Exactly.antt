@@ -11,11 +11,10 @@ use Rattle.rules.specs.Stock.{sum, IsStock, IsStrip}
 use Rattle.rules.specs.Refusals.{No, fine, firstOf, strangerNo, amountNo, stockNos, stripNos}
 use Rattle.rules.proofs.Refusals.{passed-first, passed-both}
 use Rattle.rules.proofs.Checks.{passed-head, when-passed, accepted-back, accepted-strip-back, length-right}
-use Rattle.rules.proofs.Strips.{strip-sum}
+use Rattle.rules.proofs.Strips.{strip-sum, strip-fits}
 use Rattle.walking.specs.Answers.{onward, left}
 use Rattle.sheets.specs.Sheets.{padded, stockRecord, stripRecord, moveRecords, sheetOf}
 use Rattle.sheets.proofs.Bodies.{padded-long}
-use Rattle.sheets.proofs.Lengths.{strip-fits}
 use Rattle.records.specs.Records.{sheetStock, stripBody, sheetStrip, recordNo, paddingNo, firstTwoNos}
 use Rattle.records.proofs.BodyLaws.{zeros, record-other, record-there}
 use Rattle.records.proofs.FirstTwo.{first-two-long, first-two-stock, first-two-strip}

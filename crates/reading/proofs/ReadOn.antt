@@ -8,7 +8,7 @@ use lib.ListN.{length, take, drop}
 use lib.Seq.{length-take-le, take-at, length-front}
 use Rattle.rules.specs.Refusals.{No, fine, firstOf}
 use Rattle.rules.proofs.Refusals.{first-stopped, first-passed, unless-refused}
-use Rattle.sheets.proofs.Lengths.{strip-fits}
+use Rattle.rules.proofs.Strips.{strip-fits}
 use Rattle.records.specs.declared.opening.Opening.{Opening}
 use Rattle.records.specs.Opened.{heldStock, heldStrip, Ready}
 use Rattle.following.specs.declared.Readout.{Readout}

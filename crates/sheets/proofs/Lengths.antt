@@ -7,17 +7,13 @@ use native.Mathlib.Omega.{arith}
 use lib.ListN.{length, length-append}
 use Rattle.rules.specs.Stock.{IsStock, IsStrip}
 use Rattle.rules.specs.Neighbours.{places}
-use Rattle.rules.proofs.Strips.{strip-sum}
+use Rattle.rules.proofs.Strips.{strip-fits}
 use Rattle.walking.specs.Answers.{onward, left}
 use Rattle.walking.proofs.Along.{along-places}
 use Rattle.sheets.specs.Sheets.{stockRecord, stripRecord, moveRecords, endRecord, sheetOf}
 use Rattle.sheets.proofs.Bodies.{padded-long}
 
 module _ (counts s : List ℕ) (k : IsStock counts) (h : IsStrip counts s) where
-  -- a strip is no longer than its record's body
-  pub strip-fits : length s ≤ 64
-  strip-fits = omega (arith, strip-sum counts s h, k .short)
-
   pub moves-long : (c : ℕ) → c ≤ left counts s → length (moveRecords counts s c) ≡ 3 * c
   unfolding moveRecords
   moves-long zero l = refl
@@ -36,5 +32,5 @@ module _ (counts s : List ℕ) (k : IsStock counts) (h : IsStrip counts s) where
         length-append m endRecord,
         moves-long c l,
         padded-long 16 counts (k .few),
-        padded-long 64 s strip-fits,
+        padded-long 64 s (strip-fits counts s k h),
       )

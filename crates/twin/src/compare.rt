@@ -54,9 +54,20 @@ fn compare_pairs(tally: &mut Tally, stock: &[u16], book: &[u8], i: usize, n: usi
     }
 }
 
-// The sheets from the strip of a number, for stocks of up to 4 blocks.
+// The strip of a number with every strip.
+fn compare_all_pairs(tally: &mut Tally, stock: &[u16], book: &[u8], i: usize, n: usize) {
+    let strips = book.len() / 8;
+    let mut j = 0;
+    while j < strips {
+        compare_pair(tally, stock, book, n, i, j);
+        j += 1;
+    }
+}
+
+// The pairs and the sheets of the strip of a number, for stocks of up to 4 blocks.
 fn compare_small(tally: &mut Tally, stock: &[u16], book: &[u8], i: usize, n: usize) {
     if n <= 4 {
+        compare_all_pairs(tally, stock, book, i, n);
         compare_sheets(tally, stock, book, i, n);
     }
 }

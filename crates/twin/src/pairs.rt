@@ -1,9 +1,11 @@
 // The calls on two strips compared with a book: Which, Earlier, Distance.
+use crate::parting::parting_kind;
 use crate::rows::same;
 use crate::rows::strip_at;
 use crate::single::is;
 use crate::tally::DISTANCE;
 use crate::tally::EARLIER;
+use crate::tally::KIND;
 use crate::tally::Tally;
 use crate::tally::WHICH;
 use crate::tally::note;
@@ -29,6 +31,11 @@ fn which_agrees(stock: &[u16], first: &[u8], second: &[u8], order: u8) -> bool {
     }
     let refusal = compared.refusal;
     is(refusal, 0)
+}
+
+fn kind_agrees(stock: &[u16], first: &[u8], second: &[u8]) -> bool {
+    let compared = which(stock, first, second);
+    compared.kind == parting_kind(first, second)
 }
 
 fn earlier_agrees<'a>(stock: &[u16], first: &'a [u8], second: &'a [u8], order: u8) -> bool {
@@ -64,6 +71,7 @@ pub fn compare_pair(tally: &mut Tally, stock: &[u16], book: &[u8], n: usize, i: 
     let second = strip_at(book, j, n);
     let order = smaller(i, j);
     note(tally, WHICH, which_agrees(stock, first, second, order));
+    note(tally, KIND, kind_agrees(stock, first, second));
     note(tally, EARLIER, earlier_agrees(stock, first, second, order));
     note(
         tally,

@@ -45,6 +45,8 @@ pub const REBUILT_BYTE: usize = 18;
 
 pub const REBUILT_TAIL: usize = 19;
 
+pub const KIND: usize = 20;
+
 fn add_one(tally: &mut Tally, i: usize) {
     if i < 64 {
         let seen = tally[i];
@@ -95,6 +97,7 @@ fn print_moves(tally: &Tally) {
 
 fn print_pairs(tally: &Tally) {
     line(b"Which: ", tally, WHICH);
+    line(b"Kind that Which reports: ", tally, KIND);
     line(b"Earlier: ", tally, EARLIER);
     line(b"Distance: ", tally, DISTANCE);
 }

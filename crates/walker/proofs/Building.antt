@@ -8,25 +8,16 @@ use native.Mathlib.Numerals.{add-one}
 use native.Mathlib.Omega.{arith}
 use borrow.Author.Tests.{le-leb, lt-leb}
 use lib.Dec.{leb}
-use lib.ListN.{length, getD, take, set}
-use Rattle.rules.specs.Stock.{sum, binom, IsStock, IsStrip}
+use lib.ListN.{length, getD, set}
+use Rattle.rules.specs.Stock.{IsStock, IsStrip}
 use Rattle.rules.specs.Book.{odd, reduced, backward}
-use Rattle.rules.proofs.Listed.{differs}
-use Rattle.rules.proofs.Snake.{numbered}
-use Rattle.rules.proofs.Books.{number′}
-use Rattle.rules.proofs.Strips.{number, strip-sum}
-use Rattle.rules.proofs.Index.{rests, index}
-use Rattle.rules.proofs.Prefixes.{OneMore, one-more, sum-take}
-use Rattle.rules.proofs.Parity as parity
+use Rattle.rules.proofs.Index.{index}
 use Rattle.rules.proofs.Parity.{backward-number}
+use Rattle.rules.proofs.Upward as upward
+use Rattle.rules.proofs.Upward.{Upward}
 use Rattle.walker.specs.declared.Walker.{Walker}
 use Rattle.walker.specs.Walkers.{walkerOf, allForward}
 use Rattle.walker.proofs.ByKind.{stored, walkerTo, walker-to, to-long, to-at}
-
--- ---- the parity, with one kind more
-
-odd-next : (before odd-index : Bool) (n q i : ℕ) → i < n → odd q ≡ before → odd-index ≡ odd i → not (Bool·beq before odd-index) ≡ odd (numbered n q i)
-odd-next before odd-index n q i h e f = rw (f, ← e) (differs (odd q) (odd i) ∙ sym (parity.odd-index n q i h))
 
 -- ---- the walker, with one kind more
 
@@ -47,44 +38,25 @@ one-to counts s j h = stored (walkerTo counts s j) (walkerTo counts s (suc j)) (
 
 -- ---- the loop
 
-pub strip-fits : (counts s : List ℕ) → IsStock counts → IsStrip counts s → length s ≤ 64
-strip-fits counts s stock strip = omega (arith, strip-sum counts s strip, stock .short)
-
 pub record Built (counts s : List ℕ) (w : Walker) (before : Bool) (below j : ℕ) : Type 0 where
-  pub done : j ≤ length counts
-  pub blocks : below ≡ sum (take j counts)
-  pub parity : odd (number (take j counts) (reduced j s)) ≡ before
+  pub up : Upward counts s before below j
   pub so-far : w ≡ walkerTo counts s j
 
 pub start : (counts s : List ℕ) → Built counts s allForward false 0 0
-unfolding sum number number′ odd walkerTo
-start counts s = record { done = omega arith; blocks = refl; parity = refl; so-far = refl }
+unfolding walkerTo
+start counts s = record { up = upward.start counts s; so-far = refl }
 
 module _ (counts s : List ℕ) (w : Walker) (before : Bool) (below j : ℕ) (b : Built counts s w before below j) where
   module _ (stock : IsStock counts) (strip : IsStrip counts s) (h : j < length counts) where
-    more : OneMore counts s j (j + 1)
-    more = one-more counts s strip j h
-
-    pub reduced-fits : length (reduced (j + 1) s) ≤ 64
-    reduced-fits = omega (arith, more .letters, sum-take counts (j + 1), stock .short)
-
-    pub others : below ≡ rests (j + 1) (reduced (j + 1) s)
-    others = b .blocks ∙ sym (more .others)
-
     stored-now : record { back = set (w .back) j before } ≡ walkerTo counts s (j + 1)
     stored-now =
-        let e : before ≡ backward counts (suc j) s = sym (backward-number counts s strip j (omega arith) ∙ b .parity) in
+        let e : before ≡ backward counts (suc j) s = sym (backward-number counts s strip j (omega arith) ∙ b .up .parity) in
         rw (b .so-far, e, add-one j) (one-to counts s j (omega (arith, stock .few)))
 
     pub on : (n : ℕ) (odd-index : Bool) → n ≡ length (reduced (j + 1) s) → odd-index ≡ odd (index (j + 1) (reduced (j + 1) s)) → Built counts s (record { back = set (w .back) j before }) (not (Bool·beq before odd-index)) n (j + 1)
-    on n odd-index n-is index-is = record {
-      done = omega arith;
-      blocks = n-is ∙ more .letters;
-      parity = sym (odd-next before odd-index (binom (sum (take (j + 1) counts)) (sum (take j counts))) (number (take j counts) (reduced j s)) (index (j + 1) (reduced (j + 1) s)) (more .within) (b .parity) index-is ∙ ap odd (more .next));
-      so-far = stored-now;
-    }
+    on n odd-index n-is index-is = record { up = upward.on (b .up) strip h n-is index-is; so-far = stored-now }
 
   pub end : length counts ≤ j → w ≡ walkerOf counts s
   end h =
-      let e : j ≡ length counts = omega (arith, b .done) in
+      let e : j ≡ length counts = omega (arith, b .up .done) in
       b .so-far ∙ ap (walkerTo counts s) e ∙ sym (walker-to counts s)

@@ -11,7 +11,7 @@ use Rattle.rules.specs.Neighbours.{Neighbours, places}
 use Rattle.rules.specs.Refusals.{No, fine}
 use Rattle.rules.proofs.Exchange.{swap, exchanged}
 use Rattle.rules.proofs.Walk.{Move}
-use Rattle.rules.proofs.Strips.{moveOf, strip-sum}
+use Rattle.rules.proofs.Strips.{moveOf, strip-fits}
 use Rattle.rules.proofs.Neighbours.{swapped-places, swapped-neighbours}
 use Rattle.walker.specs.declared.Walker.{Walker}
 use Rattle.walker.specs.Walkers.{walkerOf}
@@ -83,7 +83,7 @@ module _ (d : Bool) (counts s : List ℕ) (h : IsStrip counts s) where
 -- a move that was found can be made: its places stand in the strip, which has at most 64 blocks
 pub can-be-made : {d : Bool} {counts s : List ℕ} {w : Walker} {j low high : ℕ} → Checked counts s w → Makes d counts s j low high
     → (j ≤ length counts) × (length counts ≤ 16) × (low < length s) × (high < length s) × (length s ≤ 64)
-can-be-made {d} {counts} {s} c m = (m .kinds, c .stock .few, omega (arith, m .order, m .inside), m .inside, omega (arith, strip-sum counts s (c .strip), c .stock .short))
+can-be-made {d} {counts} {s} c m = (m .kinds, c .stock .few, omega (arith, m .order, m .inside), m .inside, strip-fits counts s (c .stock) (c .strip))
 
 -- ---- what the step answers
 

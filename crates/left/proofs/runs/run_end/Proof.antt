@@ -3,9 +3,9 @@ use Prim.Native.Nat.{_+_, _-_, _≤_}
 use mathlib.Core.Path.{_≡_}
 use native.Mathlib.Omega.{arith}
 use lib.ListN.{length, drop}
+use Rattle.rules.proofs.Listed.{like, unlike}
 use Rattle.rules.proofs.Books.{letter, pattern}
 use Rattle.rules.proofs.Runs.{run, run-on, run-stops, run-ends}
-use Rattle.left.proofs.ByCases.{same, other}
 use Rattle.left.proofs.runs.run_end.Statement.{statement}
 use Rattle.left.proofs.runs.run_end.Tie as tie
 
@@ -19,13 +19,13 @@ returns : tie.Need-returns Inv-loop μ-loop
 returns c =
     let a = c .before .before .before .before .args in
     let i = c .before .before .before .loop .i in
-    (omega (arith, run-stops (a .kind) (a .word .now) i (a .own) (c .before .before .loop-test .taken) (other _ _ (c .if1 .taken))), omega arith)
+    (omega (arith, run-stops (a .kind) (a .word .now) i (a .own) (c .before .before .loop-test .taken) (unlike _ _ (c .if1 .taken))), omega arith)
 
 loop-again : tie.Need-loop-again Inv-loop μ-loop
 loop-again c =
     let a = c .before .before .before .before .args in
     let i = c .before .before .before .loop .i in
-    (omega arith, omega (arith, run-on (a .kind) (a .word .now) i (a .own) (c .before .before .loop-test .taken) (same _ _ (c .if1 .left))))
+    (omega arith, omega (arith, run-on (a .kind) (a .word .now) i (a .own) (c .before .before .loop-test .taken) (like _ _ (c .if1 .left))))
 
 returns-2 : tie.Need-returns-2 Inv-loop μ-loop
 returns-2 c =

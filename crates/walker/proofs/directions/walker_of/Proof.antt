@@ -6,8 +6,11 @@ use native.Mathlib.Omega.{arith}
 use lib.ListN.{length}
 use borrow.Author.Needs.{needs}
 use Rattle.rules.specs.Book.{odd, reduced}
+use Rattle.rules.proofs.Strips.{strip-fits}
 use Rattle.rules.proofs.Index.{rests, index}
-use Rattle.walker.proofs.Building.{Built, start, strip-fits, reduced-fits, others, on, end}
+use Rattle.rules.proofs.Reduced.{reduced-fits}
+use Rattle.rules.proofs.Upward.{others}
+use Rattle.walker.proofs.Building.{Built, start, on, end}
 use Rattle.walker.proofs.directions.walker_of.Statement.{statement}
 use Rattle.walker.proofs.directions.walker_of.Tie as tie
 
@@ -32,10 +35,10 @@ module _ (c : tie.In-loop Inv-loop μ-loop) where
   fits = let p = at .before .before .before .pre in strip-fits _ _ (p .0) (p .1)
 
   within : length (reduced kind strip) ≤ 64
-  within = let p = at .before .before .before .pre in reduced-fits _ _ _ _ _ _ (at .loop .inv .1) (p .0) (p .1) (c .loop-test .taken)
+  within = let p = at .before .before .before .pre in reduced-fits _ _ (p .0) (p .1) kind
 
   rest : at .loop .below ≡ rests kind (reduced kind strip)
-  rest = let p = at .before .before .before .pre in others _ _ _ _ _ _ (at .loop .inv .1) (p .0) (p .1) (c .loop-test .taken)
+  rest = let p = at .before .before .before .pre in others (at .loop .inv .1 .up) (p .1) (c .loop-test .taken)
 
 reduce-requires : tie.Need-reduce-requires Inv-loop μ-loop
 reduce-requires c κs = omega (arith, fits (c .before))

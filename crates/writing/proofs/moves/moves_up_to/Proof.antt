@@ -4,9 +4,9 @@ use mathlib.Core.Path.{_≡_, sym, ap, _∙_}
 use mathlib.Core.List.{List}
 use native.Mathlib.Omega.{arith}
 use lib.ListN.{length, take}
+use Rattle.rules.proofs.Strips.{strip-fits}
 use Rattle.walking.specs.Answers.{left}
 use Rattle.sheets.proofs.Bodies.{padded-long, padded-front}
-use Rattle.sheets.proofs.Lengths.{strip-fits}
 use Rattle.writing.proofs.moves.moves_up_to.Statement.{statement}
 use Rattle.writing.proofs.moves.moves_up_to.Tie as tie
 

@@ -5,10 +5,10 @@ use mathlib.Core.List.{List, _++_, append-assoc}
 use native.Mathlib.Omega.{arith}
 use borrow.Rule.Slice.PartMut.{putMid}
 use lib.ListN.{length, take, drop}
+use Rattle.rules.proofs.Strips.{strip-fits}
 use Rattle.sheets.specs.Sheets.{stockRecord, stripRecord, moveRecords, endRecord, sheetOf}
 use Rattle.sheets.proofs.Rest.{Filled, first, more, rest-long, same-long}
 use Rattle.sheets.proofs.Bodies.{padded-long, padded-front}
-use Rattle.sheets.proofs.Lengths.{strip-fits}
 use Rattle.writing.proofs.Listing.{of-same}
 use Rattle.writing.proofs.whole.put_sheet.Statement.{statement}
 use Rattle.writing.proofs.whole.put_sheet.Tie as tie
