@@ -5,16 +5,20 @@ use mathlib.Core.Path.{_≡_, refl, sym, ap, _∙_}
 use mathlib.Core.Bool.{Bool, true, false, not, false≢true}
 use mathlib.Core.List.{List}
 use native.Mathlib.Decide.{decLt}
+use native.Mathlib.Numerals.{add-one}
 use native.Mathlib.Omega.{arith}
-use lib.ListN.{length, drop, length-drop}
-use Rattle.rules.specs.Stock.{IsStrip}
+use lib.ListN.{length, getD, take, drop, length-drop}
+use Rattle.rules.specs.Stock.{sum, IsStrip}
 use Rattle.rules.specs.Book.{same, reduced}
 use Rattle.rules.proofs.Smallest.{FoundAt, smallest-nowhere, smallest-zero, smallest-found}
+use Rattle.rules.proofs.Turned.{sum-next}
+use Rattle.rules.proofs.Patterns.{binom-self}
 use Rattle.rules.proofs.Books.{number′}
 use Rattle.rules.proofs.Strips.{number}
+use Rattle.rules.proofs.Index.{index}
 use Rattle.rules.proofs.Places.{same-self, same-not, same-true}
 use Rattle.rules.proofs.Reduced.{prefix-all}
-use Rattle.rules.proofs.Prefixes.{one-kind-first}
+use Rattle.rules.proofs.Prefixes.{one-kind-first, one-more}
 use Rattle.comparing.specs.Order.{isParted, partingKind}
 use Rattle.comparing.proofs.Ahead.{same-number}
 
@@ -51,6 +55,17 @@ module _ (counts s t : List ℕ) (some : 0 < length counts) (hs : IsStrip counts
   alike-low (suc zero) h = alike-one
   alike-low (suc (suc j)) h = absurd (omega arith)
 
+  -- a kind without blocks has one pattern: strips that are alike below it are alike in it
+  alike-in-none : (j : ℕ) → j < length counts → getD counts j 0 ≡ 0 → reduced j s ≡ reduced j t → reduced (j + 1) s ≡ reduced (j + 1) t
+  alike-in-none j l z e =
+      let n = sum (take j counts) in
+      let all : sum (take (j + 1) counts) ≡ n = rw (add-one j) (omega (arith, sum-next counts j l)) in
+      let m₁ = one-more counts s hs j l in
+      let m₂ = one-more counts t ht j l in
+      let i₁ : index (j + 1) (reduced (j + 1) s) ≡ 0 = omega (arith, rw (all, binom-self n) at (m₁ .within)) in
+      let i₂ : index (j + 1) (reduced (j + 1) t) ≡ 0 = omega (arith, rw (all, binom-self n) at (m₂ .within)) in
+      same-number counts s t hs ht (j + 1) (omega arith) (sym (m₁ .next) ∙ rw (i₁, e) (rw i₂ at (m₂ .next)))
+
   -- where no kind is reported
   alike-throughout : partingKind counts s t ≡ 0 → (j : ℕ) → j ≤ length counts → reduced j s ≡ reduced j t
   alike-throughout z j l = elim (decLt j 2) [
@@ -86,4 +101,13 @@ module _ (counts s t : List ℕ) (some : 0 < length counts) (hs : IsStrip counts
       | no h ↦
           let e : 2 + (j - 2) ≡ j = omega arith in
           only-alike s t j (rw e at (found .1 .before (j - 2) (omega (arith, found .1 .is))))
+    ]
+
+    pub has-blocks : 1 ≤ getD counts (partingKind counts s t - 1) 0
+    has-blocks = elim (decLt 0 (getD counts (partingKind counts s t - 1) 0)) [
+      | yes h ↦ h
+      | no h ↦
+          let k = partingKind counts s t in
+          let e : k - 1 + 1 ≡ k = omega (arith, from-two) in
+          absurd (differ-at (rw e at (alike-in-none (k - 1) (omega (arith, from-two, to-last)) (omega arith) (alike-below (k - 1) (omega (arith, from-two))))))
     ]

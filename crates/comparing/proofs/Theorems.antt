@@ -1,5 +1,5 @@
 -- Theorems on Which and Earlier, over their contracts as the functions state them: `Post` says which answers each allows for which input.
-use Prim.Native.Nat.{ℕ, zero, suc, _≤_, _<_}
+use Prim.Native.Nat.{ℕ, zero, suc, _-_, _≤_, _<_}
 use mathlib.Core.Path.{_≡_, refl, sym, ap, _∙_}
 use mathlib.Core.Bool.{Bool, true, false}
 use mathlib.Core.List.{List, []}
@@ -7,7 +7,7 @@ use native.Mathlib.Decide.{ℕ-discrete}
 use native.Mathlib.Omega.{arith}
 use borrow.Author.Tests.{ne-eqb}
 use lib.Dec.{eqb}
-use lib.ListN.{length, take}
+use lib.ListN.{length, getD, take}
 use contract.Lifetimes.{Lfts}
 use borrow.Fn.Kinds.{Dens, endedOf}
 use denote.Triple.Clauses.{AtExit}
@@ -26,7 +26,7 @@ use Rattle.comparing.specs.Order.{whichOf, partingKind}
 use Rattle.comparing.specs.Answers.{whichAnswer, Lent, EmptyPart, secondIf, named, IsEarlier}
 use Rattle.comparing.proofs.Numbers.{which-first, which-second, which-equal, only-second, only-equal}
 use Rattle.comparing.proofs.Ahead.{decides}
-use Rattle.comparing.proofs.Parting.{none-same, same-none, from-two, to-last, differ-at, alike-below}
+use Rattle.comparing.proofs.Parting.{none-same, same-none, from-two, to-last, differ-at, alike-below, has-blocks}
 use Rattle.comparing.proofs.Handed.{order, refused}
 use Rattle.comparing.proofs.which.which.Kinds as which
 use Rattle.comparing.proofs.which.which.Reads as which-reads
@@ -119,6 +119,10 @@ module _ (κs : Lfts 3) (a : Dens κs which.ps) (r : Compared) (s : AtExit (ende
 
       pub kind-from-two : (2 ≤ r .kind) × (r .kind ≤ length counts)
       kind-from-two = rw part-is (from-two counts first second some (which-accepts e .1) (which-accepts e .2) parts, to-last counts first second some (which-accepts e .1) (which-accepts e .2) parts)
+
+      -- it has blocks: a sold-out kind is never reported
+      pub kind-has-blocks : 1 ≤ getD counts (r .kind - 1) 0
+      kind-has-blocks = rw part-is (has-blocks counts first second some (which-accepts e .1) (which-accepts e .2) parts)
 
       pub kind-differs : reduced (r .kind) first ≡ reduced (r .kind) second → ⊥
       kind-differs = rw part-is (differ-at counts first second some (which-accepts e .1) (which-accepts e .2) parts)

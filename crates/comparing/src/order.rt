@@ -32,7 +32,7 @@ pub fn compare(stock: &[u16], first: &[u8], second: &[u8]) -> Compared
             return Compared {
                 refusal: Refusal { no: 0, place: 0 },
                 which: order,
-                kind: kind,
+                kind,
             };
         }
         let odd_index = odd_index_of(&one[..n], kind, below);

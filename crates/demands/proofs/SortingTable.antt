@@ -6,7 +6,7 @@
 pub use Rattle.comparing.proofs.Theorems.{order-is, earlier-first, earlier-second}
 -- the kind is 0 exactly where the strips are equal
 pub use Rattle.comparing.proofs.Theorems.{kind-zero-same, same-kind-zero}
--- else it is one from 2 to the last; below it the reduced strips agree, and at it they differ
-pub use Rattle.comparing.proofs.Theorems.{kind-from-two, kind-before, kind-differs}
+-- else it is one from 2 to the last that has blocks; below it the reduced strips agree, and at it they differ
+pub use Rattle.comparing.proofs.Theorems.{kind-from-two, kind-has-blocks, kind-before, kind-differs}
 -- the reduced strips at that kind are enough to know: their order in the book of the kinds up to it is the answer
 pub use Rattle.comparing.proofs.Theorems.{kind-decides}
