@@ -55,6 +55,15 @@ module _ (counts s t : List ℕ) (some : 0 < length counts) (hs : IsStrip counts
   alike-low (suc zero) h = alike-one
   alike-low (suc (suc j)) h = absurd (omega arith)
 
+  -- from kind 2 on by the test of the definition
+  alike-at : (j : ℕ) → (2 ≤ j → isParted s t (2 + (j - 2)) 0 ≡ false) → reduced j s ≡ reduced j t
+  alike-at j tested = elim (decLt j 2) [
+    | yes h ↦ alike-low j h
+    | no h ↦
+        let e : 2 + (j - 2) ≡ j = omega arith in
+        only-alike s t j (rw e at (tested (omega arith)))
+  ]
+
   -- a kind without blocks has one pattern: strips that are alike below it are alike in it
   alike-in-none : (j : ℕ) → j < length counts → getD counts j 0 ≡ 0 → reduced j s ≡ reduced j t → reduced (j + 1) s ≡ reduced (j + 1) t
   alike-in-none j l z e =
@@ -67,16 +76,11 @@ module _ (counts s t : List ℕ) (some : 0 < length counts) (hs : IsStrip counts
       same-number counts s t hs ht (j + 1) (omega arith) (sym (m₁ .next) ∙ rw (i₁, e) (rw i₂ at (m₂ .next)))
 
   -- where no kind is reported
-  alike-throughout : partingKind counts s t ≡ 0 → (j : ℕ) → j ≤ length counts → reduced j s ≡ reduced j t
-  alike-throughout z j l = elim (decLt j 2) [
-    | yes h ↦ alike-low j h
-    | no h ↦
-        let e : 2 + (j - 2) ≡ j = omega arith in
-        only-alike s t j (rw e at (smallest-zero (isParted s t) 1 (drop 1 counts) z (j - 2) (simp length-drop (omega arith))))
-  ]
-
   pub none-same : partingKind counts s t ≡ 0 → s ≡ t
-  none-same z = sym (prefix-all counts s hs) ∙ alike-throughout z (length counts) (omega arith) ∙ prefix-all counts t ht
+  none-same z =
+      let k = length counts in
+      let e : reduced k s ≡ reduced k t = alike-at k (λ h. smallest-zero (isParted s t) 1 (drop 1 counts) z (k - 2) (simp length-drop (omega arith))) in
+      sym (prefix-all counts s hs) ∙ e ∙ prefix-all counts t ht
 
   pub same-none : s ≡ t → partingKind counts s t ≡ 0
   same-none e = smallest-nowhere (isParted s t) 2 (drop 1 counts) (λ i h. parted-no s t (2 + i) (ap (reduced (2 + i)) e))
@@ -96,12 +100,7 @@ module _ (counts s t : List ℕ) (some : 0 < length counts) (hs : IsStrip counts
     differ-at = rw (found .1 .is) (only-differing s t (2 + found .0) (found .1 .holds))
 
     pub alike-below : (j : ℕ) → j < partingKind counts s t → reduced j s ≡ reduced j t
-    alike-below j l = elim (decLt j 2) [
-      | yes h ↦ alike-low j h
-      | no h ↦
-          let e : 2 + (j - 2) ≡ j = omega arith in
-          only-alike s t j (rw e at (found .1 .before (j - 2) (omega (arith, found .1 .is))))
-    ]
+    alike-below j l = alike-at j (λ h. found .1 .before (j - 2) (omega (arith, found .1 .is)))
 
     pub has-blocks : 1 ≤ getD counts (partingKind counts s t - 1) 0
     has-blocks = elim (decLt 0 (getD counts (partingKind counts s t - 1) 0)) [
