@@ -71,7 +71,7 @@ static void pair_at(const work *w, pairing *p, uint8_t kind)
     }
 }
 
-/* Strips that pass every check but the last: one block of the last kind is of the kind below it. */
+/* Strips that are refused at the end of the checks, by 6: one block of the last kind is of the kind below it. */
 static void pair_refused(const work *w, pairing *p)
 {
     for (size_t i = 0; i < STRIPS; i++) {

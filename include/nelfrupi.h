@@ -136,8 +136,8 @@ typedef struct {
 } nelfrupi_compared;
 
 /* Which: the strip that stands first in the book, or that the two are equal, also where T is 2^64 or more; and the first
- * kind from 2 upward at which the two differ when all higher kinds are taken out of both. That kind settles the order,
- * and none above it is looked at.
+ * kind from 2 upward at which the two differ when all higher kinds are taken out of both. That kind settles the order:
+ * after the checks none above it is looked at.
  * Refused: 1, 2, 3; then 4, 5, 6 of the first strip; then 4, 5, 6 of the second. */
 nelfrupi_compared nelfrupi_which(const uint16_t *stock, size_t kinds, const uint8_t *first, size_t first_length,
                                  const uint8_t *second, size_t second_length);
