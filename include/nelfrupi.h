@@ -12,6 +12,8 @@
  *   dictionary, dictionary number
  *            the same strips as in a dictionary: of two, the first place at which they differ decides, and the lower kind
  *            comes first. A strip's place there, counted from 0, is its dictionary number.
+ *   paper    what a strip is when it is hung endless: the strip and all its turns are one paper. The smallest of them in
+ *            dictionary order is the standing strip of the paper.
  *
  * LENDING
  *   A list is lent as a pointer to its first element and a length, which is a number of elements. The pointer is not
@@ -162,6 +164,37 @@ typedef struct {
  * Refused: 1, 2, 3; then 4, 5, 6 of the first strip; then 4, 5, 6 of the second. */
 nelfrupi_asked nelfrupi_same_paper(const uint16_t *stock, size_t kinds, const uint8_t *first, size_t first_length,
                                    const uint8_t *second, size_t second_length);
+
+typedef struct {
+    nelfrupi_refusal refusal;
+    uint64_t turn;
+} nelfrupi_stood;
+
+/* Stand: the strip becomes the one that stands for its paper, of all its turns the smallest in dictionary order. `turn` is
+ * the smallest number of places to turn the strip by to have it. Two strips become the same exactly when Same paper says
+ * yes.
+ * Refused: 1, 2, 3, 4, 5, 6. */
+nelfrupi_stood nelfrupi_stand(const uint16_t *stock, size_t kinds, uint8_t *strip, size_t length);
+
+/* How a search in steps ended. */
+enum { NELFRUPI_FOUND = 1, NELFRUPI_NONE_LEFT = 2, NELFRUPI_STOPPED = 3 };
+
+typedef struct {
+    nelfrupi_refusal refusal;
+    uint8_t outcome;
+    uint64_t steps;
+} nelfrupi_stepped;
+
+/* Next paper: looks for the next later standing strip in dictionary order, within the given steps, each from a strip to
+ * the next in the dictionary. `outcome` is one of the three above; refused, 0.
+ *   found       the strip becomes that standing strip, and `steps` leads to it.
+ *   none left   no later strip is standing, and the given steps reach the last strip; `steps` leads to the last.
+ *   stopped     otherwise: all the given steps are made.
+ * None left and stopped are no refusals, and leave the strip as it was. The first strip in dictionary order, which
+ * nelfrupi_first gives, is standing; it and the strips found from there, each with T - 1 steps or more, are every paper of
+ * the stock, once.
+ * Refused: 1, 2, 3, 4, 5, 6. */
+nelfrupi_stepped nelfrupi_next_paper(const uint16_t *stock, size_t kinds, uint8_t *strip, size_t length, uint64_t steps);
 
 /* ---- walking, also where T is 2^64 or more */
 

@@ -1,15 +1,20 @@
-// Prints what the printing program gives for many inputs: standard input holds them one after the other, each with a percent sign after it. Of each
-// the first six lines and the last are written, and then a line with a percent sign.
+// Prints what the two printing programs give for many inputs: standard input holds them one after the other, each with a percent sign after it. Of each the
+// first six lines and the last of the book are written, and then those of the catalogue, either with a line with a percent sign after them.
 use io::buffer;
 use io::read_full;
 use io::write_all;
-use printing::printer::first_line;
-use printing::printer::next_line;
 
-// A line is held while the next one is sought: it is the last where there is none.
-fn show(input: &[u8]) {
+// A line is held until the length of the next one is known: it is the last where there is none.
+fn show(held: &[u8], lines: usize, next: usize) {
+    if lines <= 6 || next == 0 {
+        write_all(1, held);
+    }
+}
+
+// The two printers have types of their own, so each has its loop.
+fn show_book(input: &[u8]) {
     let mut line = [0u8; 256];
-    let mut printed = first_line(input, &mut line);
+    let mut printed = printing::printer::first_line(input, &mut line);
     let mut lines: usize = 0;
     while lines < 4096 {
         let n = printed.length;
@@ -17,16 +22,32 @@ fn show(input: &[u8]) {
             return;
         }
         let held = line;
-        printed = next_line(printed.printer, &mut line);
+        printed = printing::printer::next_line(printed.printer, &mut line);
         lines += 1;
-        if lines <= 6 || printed.length == 0 {
-            write_all(1, &held[..n]);
+        show(&held[..n], lines, printed.length);
+    }
+}
+
+fn show_catalogue(input: &[u8]) {
+    let mut line = [0u8; 256];
+    let mut printed = listing::printer::first_line(input, &mut line);
+    let mut lines: usize = 0;
+    while lines < 4096 {
+        let n = printed.length;
+        if n == 0 {
+            return;
         }
+        let held = line;
+        printed = listing::printer::next_line(printed.printer, &mut line);
+        lines += 1;
+        show(&held[..n], lines, printed.length);
     }
 }
 
 fn show_case(input: &[u8]) {
-    show(input);
+    show_book(input);
+    write_all(1, b"%\n");
+    show_catalogue(input);
     write_all(1, b"%\n");
 }
 

@@ -76,6 +76,14 @@ use Rattle.papers.specs.Papers.{samePaperAnswer}
 use Rattle.papers.proofs.Theorems.{refused-no}
 use Rattle.papers.proofs.same_paper.Kinds as same-paper
 use Rattle.papers.proofs.same_paper.Reads as same-paper-reads
+use Rattle.endless.specs.declared.stand.Stood.{Stood}
+use Rattle.endless.specs.declared.next_paper.Stepped.{Stepped}
+use Rattle.endless.specs.Answers.{standAnswer, nextPaperAnswer}
+use Rattle.endless.proofs.Theorems.{stand-right, next-paper-right}
+use Rattle.endless.proofs.stand.stand.Kinds as stand
+use Rattle.endless.proofs.stand.stand.Reads as stand-reads
+use Rattle.endless.proofs.next_paper.next_paper.Kinds as next-paper
+use Rattle.endless.proofs.next_paper.next_paper.Reads as next-paper-reads
 use Rattle.sheets.specs.declared.Written.{Written}
 use Rattle.sheets.specs.Writing.{writeNos, writeAnswer}
 use Rattle.writing.proofs.Theorems.{refused-zero, refused-same}
@@ -208,6 +216,20 @@ pub same-paper-refuses : (κs : Lfts 3) (a : Dens κs same-paper.ps) (r : Asked)
     → Refuses (pairNos (a .0 .now) (a .1 .0 .now) (a .1 .1 .0 .now)) (r .refusal) (r .same ≡ false)
 unfolding samePaperAnswer
 same-paper-refuses κs a r s h = record { named = ap (λ (r : Asked). r .refusal) h; left = refused-no κs a r s h }
+
+-- ---- Stand: 1 to 6. The strip stays
+
+pub stand-refuses : (κs : Lfts 2) (a : Dens κs stand.ps) (r : Stood) (s : AtExit (endedOf 2 stand.ps stand.r) κs) → stand-reads.Post κs a r s
+    → Refuses (checkNos (a .0 .now) (a .1 .0 .now)) (r .refusal) ((r .turn ≡ 0) × (s .1 .0 .now ≡ a .1 .0 .now))
+unfolding standAnswer
+stand-refuses κs a r s h = record { named = ap (λ (r : Stood). r .refusal) (h .0); left = stand-right κs a r s h .kept }
+
+-- ---- Next paper: 1 to 6. The strip stays
+
+pub next-paper-refuses : (κs : Lfts 2) (a : Dens κs next-paper.ps) (r : Stepped) (s : AtExit (endedOf 2 next-paper.ps next-paper.r) κs) → next-paper-reads.Post κs a r s
+    → Refuses (checkNos (a .0 .now) (a .1 .0 .now)) (r .refusal) ((r .outcome ≡ 0) × (r .steps ≡ 0) × (s .1 .0 .now ≡ a .1 .0 .now))
+unfolding nextPaperAnswer
+next-paper-refuses κs a r s h = record { named = ap (λ (r : Stepped). r .refusal) (h .0); left = next-paper-right κs a r s h .kept }
 
 -- ---- writing a sheet: 1 to 6, 13, 9. The sheet stays
 

@@ -7,4 +7,5 @@ pub mod Pedal
 pub mod SoldOut
 pub mod Coffee
 pub mod SortingTable
+pub mod EndlessPapers
 pub mod Outcomes

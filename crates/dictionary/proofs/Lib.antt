@@ -5,5 +5,6 @@ pub mod Amounts
 pub mod Places
 pub mod Theorems
 pub mod Following
+pub mod FirstEntry
 pub mod Unique
 pub mod Marked

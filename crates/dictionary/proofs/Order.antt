@@ -35,6 +35,13 @@ true-before (x ∷ s) [] h = absurd h
 true-before (x ∷ s) (y ∷ t) (inl l) = rw (lt-ltb x y l)
 true-before (x ∷ s) (y ∷ t) (inr p) = rw (le-ltb x y (omega (arith, p .0)), eq-eqb x y (p .0)) (true-before s t (p .1))
 
+pub before-not : (s t : List ℕ) → (Before s t → ⊥) → before s t ≡ false
+before-not s t h = go (before s t) refl
+  where
+    go : (b : Bool) → before s t ≡ b → b ≡ false
+    go true e = absurd (h (before-true s t e))
+    go false e = refl
+
 pub irreflexive : (s : List ℕ) → Before s s → ⊥
 irreflexive [] h = h
 irreflexive (x ∷ s) (inl l) = omega arith

@@ -13,6 +13,7 @@ use Rattle.walker.proofs.Theorems.{one-outcome as open-one-outcome}
 use Rattle.walking.proofs.Theorems.{walk-one-outcome}
 use Rattle.running.proofs.Theorems.{run-one-outcome}
 use Rattle.papers.proofs.Theorems.{one-outcome as same-paper-one-outcome}
+use Rattle.endless.proofs.Theorems.{stand-one-outcome, next-paper-one-outcome}
 use Rattle.writing.proofs.Theorems.{one-outcome as write-sheet-one-outcome}
 use Rattle.reading.proofs.Theorems.{one-outcome as read-sheet-one-outcome, one-buffer as read-sheet-one-buffer}
 use Rattle.rebuilding.proofs.Theorems.{one-outcome as rebuild-one-outcome}
@@ -46,6 +47,10 @@ use Rattle.exports.proofs.nelfrupi_run.Kinds as run
 use Rattle.exports.proofs.nelfrupi_run.Reads as run-reads
 use Rattle.exports.proofs.nelfrupi_same_paper.Kinds as same-paper
 use Rattle.exports.proofs.nelfrupi_same_paper.Reads as same-paper-reads
+use Rattle.exports.proofs.nelfrupi_stand.Kinds as stand
+use Rattle.exports.proofs.nelfrupi_stand.Reads as stand-reads
+use Rattle.exports.proofs.nelfrupi_next_paper.Kinds as next-paper
+use Rattle.exports.proofs.nelfrupi_next_paper.Reads as next-paper-reads
 use Rattle.exports.proofs.nelfrupi_write_sheet.Kinds as write-sheet
 use Rattle.exports.proofs.nelfrupi_write_sheet.Reads as write-sheet-reads
 use Rattle.exports.proofs.nelfrupi_read_sheet.Kinds as read-sheet
@@ -97,6 +102,12 @@ run-one-outcome-for-c = run-one-outcome
 
 pub same-paper-one-outcome-for-c : OneAnswer 3 same-paper.ps same-paper.r same-paper-reads.Post
 same-paper-one-outcome-for-c = same-paper-one-outcome
+
+pub stand-one-outcome-for-c : OneOutcome 2 stand.ps stand.r (λ κs s. s .1 .0 .now) stand-reads.Post
+stand-one-outcome-for-c = stand-one-outcome
+
+pub next-paper-one-outcome-for-c : OneOutcome 2 next-paper.ps next-paper.r (λ κs s. s .1 .0 .now) next-paper-reads.Post
+next-paper-one-outcome-for-c = next-paper-one-outcome
 
 pub write-sheet-one-outcome-for-c : OneOutcome 3 write-sheet.ps write-sheet.r (λ κs s. s .1 .1 .1 .0 .now) write-sheet-reads.Post
 write-sheet-one-outcome-for-c = write-sheet-one-outcome

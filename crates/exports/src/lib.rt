@@ -12,6 +12,10 @@ use drawers::Filed;
 use drawers::next::dictionary_next;
 use drawers::number::dictionary_number;
 use drawers::strip::dictionary_strip;
+use endless::next_paper::Stepped;
+use endless::next_paper::next_paper;
+use endless::stand::Stood;
+use endless::stand::stand;
 use following::Readout;
 use measuring::distance::Apart;
 use measuring::distance::distance;
@@ -44,6 +48,7 @@ ghost use Rattle.walker.specs.Answers.{openAnswer};
 ghost use Rattle.walking.specs.Answers.{moveAnswer, moveStrip};
 ghost use Rattle.running.specs.Answers.{runAnswer, runStrip, runList};
 ghost use Rattle.papers.specs.Papers.{samePaperAnswer};
+ghost use Rattle.endless.specs.Answers.{standAnswer, standAfter, nextPaperAnswer, nextPaperAfter};
 ghost use Rattle.sheets.specs.Writing.{writeAnswer, writeSheet};
 ghost use Rattle.reading.specs.Reading.{readAnswer, readBuffer};
 ghost use Rattle.rebuilding.specs.Rebuilding.{rebuildAnswer, rebuildOut};
@@ -166,6 +171,20 @@ pub extern "C" fn nelfrupi_same_paper(stock: &[u16], first: &[u8], second: &[u8]
     ensures { λ r. ⌜ r ≡ samePaperAnswer (now (stock .entry)) (now (first .entry)) (now (second .entry)) ⌝ }
 {
     same_paper(stock, first, second)
+}
+
+#[no_mangle]
+pub extern "C" fn nelfrupi_stand(stock: &[u16], strip: &mut [u8]) -> Stood
+    ensures { λ r. ⌜ (r ≡ standAnswer (now (stock .entry)) (now (strip .entry))) × (now (strip .exit) ≡ standAfter (now (stock .entry)) (now (strip .entry))) ⌝ }
+{
+    stand(stock, strip)
+}
+
+#[no_mangle]
+pub extern "C" fn nelfrupi_next_paper(stock: &[u16], strip: &mut [u8], steps: u64) -> Stepped
+    ensures { λ r. ⌜ (r ≡ nextPaperAnswer (now (stock .entry)) (now (strip .entry)) steps) × (now (strip .exit) ≡ nextPaperAfter (now (stock .entry)) (now (strip .entry)) steps) ⌝ }
+{
+    next_paper(stock, strip, steps)
 }
 
 #[no_mangle]

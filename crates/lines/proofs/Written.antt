@@ -10,7 +10,7 @@ use Rattle.lines.proofs.Putting.{Putting, start, fits, on, byte-fits, b
 use Rattle.lines.proofs.Parts.{kindsFrom, kinds-first, strip-parts, refused-parts}
 
 -- a number: the digits before the last one, and that one
-pub put-digit : (line : List ℕ) (at n : ℕ) → 10 ≤ n → n < 10000 → at + length (decimal n) ≤ length line → (next after : List ℕ) (to end : ℕ)
+pub put-digit : (line : List ℕ) (at n : ℕ) → 10 ≤ n → n < 1000000 → at + length (decimal n) ≤ length line → (next after : List ℕ) (to end : ℕ)
     → Puts line at (decimal (n / 10)) next to → Puts next to ((48 + n % 10) ∷ []) after end → Puts line at (decimal n) after end
 put-digit line at n l h room next after to end w v =
     let e = decimal-last n l h in

@@ -11,11 +11,11 @@ unfoldable pub digits : ℕ → ℕ → List ℕ
 digits zero n = []
 digits (suc k) n = digits k (n / 10) ++ ((48 + n % 10) ∷ [])
 
--- how many digits a number below 10,000 has
+-- how many digits a number below 1,000,000 has
 abbrev pub width : ℕ → ℕ
-width n = pick (ltb n 10) 1 (pick (ltb n 100) 2 (pick (ltb n 1000) 3 4))
+width n = pick (ltb n 10) 1 (pick (ltb n 100) 2 (pick (ltb n 1000) 3 (pick (ltb n 10000) 4 (pick (ltb n 100000) 5 6))))
 
--- a number below 10,000 in decimal, without leading zeros
+-- a number below 1,000,000 in decimal, without leading zeros
 unfoldable pub decimal : ℕ → List ℕ
 unfolding digits
 decimal n = digits (width n) n

@@ -26,9 +26,9 @@ pub fn put_word(line: &mut [u8], at: usize, word: &[u8]) -> usize
     to
 }
 
-// A number below 10,000 in decimal: the digits before the last one, then that one.
+// A number below 1,000,000 in decimal: the digits before the last one, then that one.
 pub fn put_decimal(line: &mut [u8], at: usize, n: u64) -> usize
-    requires { ⌜ (n < 10000) × (at + length (decimal n) ≤ length (now line)) ⌝ }
+    requires { ⌜ (n < 1000000) × (at + length (decimal n) ≤ length (now line)) ⌝ }
     ensures { λ r. ⌜ Puts (now (line .entry)) at (decimal n) (now (line .exit)) r ⌝ }
 {
     let last = 48 + (n % 10) as u8;

@@ -26,7 +26,7 @@ fn put_kinds(line: &mut [u8], at: usize, strip: &[u8]) -> usize
 
 // The line of a strip and its number.
 pub fn put_strip(line: &mut [u8], number: u64, strip: &[u8]) -> usize
-    requires { ⌜ (number < 10000) × (0 < length (now strip)) × (length (stripLine number (now strip)) ≤ length (now line)) ⌝ }
+    requires { ⌜ (number < 1000000) × (0 < length (now strip)) × (length (stripLine number (now strip)) ≤ length (now line)) ⌝ }
     ensures { λ r. ⌜ Puts (now (line .entry)) 0 (stripLine number (now (strip .entry))) (now (line .exit)) r ⌝ }
 {
     let at = put_decimal(line, 0, number);
@@ -45,7 +45,7 @@ pub fn put_unreadable(line: &mut [u8]) -> usize
 
 // The line of a refusal.
 pub fn put_refusal(line: &mut [u8], refusal: Refusal) -> usize
-    requires { ⌜ (refusal .place < 10000) × (length (refusedLine (refusal .no, refusal .place)) ≤ length (now line)) ⌝ }
+    requires { ⌜ (refusal .place < 1000000) × (length (refusedLine (refusal .no, refusal .place)) ≤ length (now line)) ⌝ }
     ensures { λ r. ⌜ Puts (now (line .entry)) 0 (refusedLine (refusal .no, refusal .place)) (now (line .exit)) r ⌝ }
 {
     let at = put_word(line, 0, b"refused ");

@@ -1,3 +1,3 @@
 -- Proofs: nobody needs to read these to know what holds.
-mod Turning
+pub mod Turning
 pub mod Theorems

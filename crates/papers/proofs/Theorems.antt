@@ -2,8 +2,9 @@
 use Prim.Native.Nat.{ℕ, _<_}
 use mathlib.Core.Path.{_≡_, sym, ap, _∙_}
 use mathlib.Core.Bool.{true, false}
-use mathlib.Core.List.{List}
-use lib.ListN.{length}
+use mathlib.Core.List.{List, []}
+use native.Mathlib.Omega.{arith}
+use lib.ListN.{length, getD}
 use contract.Lifetimes.{Lfts}
 use borrow.Fn.Kinds.{Dens, endedOf}
 use denote.Triple.Clauses.{AtExit}
@@ -15,8 +16,8 @@ use Rattle.rules.proofs.Refusals.{unless-refused, unless-passed}
 use Rattle.rules.proofs.Checks.{accepted-pair, accepted-pair-back}
 use Rattle.rules.proofs.Places.{same-self, same-true}
 use Rattle.papers.specs.declared.Asked.{Asked}
-use Rattle.papers.specs.Papers.{turned, isTurn, samePaperAnswer}
-use Rattle.papers.proofs.Turning.{some-hit, some-where}
+use Rattle.papers.specs.Papers.{turned, turns, isTurn, samePaperAnswer}
+use Rattle.papers.proofs.Turning.{length-turns, turns-at, some-where, turn-hit}
 use Rattle.papers.proofs.same_paper.Kinds as same-paper
 use Rattle.papers.proofs.same_paper.Reads as reads
 
@@ -39,7 +40,7 @@ module _ (κs : Lfts 3) (a : Dens κs same-paper.ps) (r : Asked) (s : AtExit (en
   unfolding samePaperAnswer
   no-is = ap (λ (r : Asked). r .refusal .no) h
 
-  same-is : r .refusal .no ≡ 0 → r .same ≡ isTurn first second
+  pub same-is : r .refusal .no ≡ 0 → r .same ≡ isTurn first second
   unfolding samePaperAnswer
   same-is e = ap (λ (r : Asked). r .same) h ∙ unless-passed false _ _ (sym no-is ∙ e)
 
@@ -59,10 +60,10 @@ module _ (κs : Lfts 3) (a : Dens κs same-paper.ps) (r : Asked) (s : AtExit (en
   pub yes-turned : r .refusal .no ≡ 0 → r .same ≡ true → (t : ℕ) × (t < length first) × (turned t first ≡ second)
   unfolding isTurn
   yes-turned e y =
-      let w = some-where (λ t. same (turned t first) second) (length first) (sym (same-is e) ∙ y) in
-      (w .0, w .1, same-true (turned (w .0) first) second (w .2))
+      let w = some-where (λ t. same t second) (turns first) (sym (same-is e) ∙ y) in
+      let l : w .0 < length first = omega (arith, w .1, length-turns first) in
+      (w .0, l, sym (turns-at first (w .0) l) ∙ same-true (getD (turns first) (w .0) []) second (w .2))
 
   -- and back
   pub turned-yes : r .refusal .no ≡ 0 → (t : ℕ) → t < length first → turned t first ≡ second → r .same ≡ true
-  unfolding isTurn
-  turned-yes e t l f = same-is e ∙ sym (some-hit (λ t. same (turned t first) second) (length first) t l (rw f (sym (same-self second))))
+  turned-yes e t l f = same-is e ∙ sym (turn-hit first second t l (rw f (sym (same-self second))))

@@ -1,9 +1,9 @@
 // Papers: whether two strips, hung endless, are the same paper.
 use stock::Refusal;
 use stock::check_pair;
-ghost use Prim.Native.Nat.{_≤_, _<_};
+ghost use Prim.Native.Nat.{_+_, _%_, _≤_, _<_};
 ghost use mathlib.Core.Path.{_≡_};
-ghost use lib.ListN.{length};
+ghost use lib.ListN.{length, getD};
 ghost use Rattle.rules.specs.Book.{same};
 ghost use Rattle.papers.specs.Papers.{turned, isTurn, samePaperAnswer};
 
@@ -14,6 +14,18 @@ pub struct Asked {
     pub same: bool,
 }
 
+// The block at a place of a strip that is hung endless: after the last block comes the first again.
+pub fn block_at(strip: &[u8], i: usize) -> u8
+    requires { ⌜ (length (now strip) ≤ 64) × (i < length (now strip) + length (now strip)) ⌝ }
+    ensures { λ r. ⌜ r ≡ getD (now (strip .entry)) (i % length (now (strip .entry))) 0 ⌝ }
+{
+    let n = strip.len();
+    if i < n {
+        return strip[i];
+    }
+    strip[i - n]
+}
+
 // Whether the second strip is the first turned by t places.
 fn turned_by(first: &[u8], second: &[u8], t: usize) -> bool
     requires { ⌜ (length (now first) ≡ length (now second)) × (length (now first) ≤ 64) × (t < length (now first)) ⌝ }
@@ -22,8 +34,7 @@ fn turned_by(first: &[u8], second: &[u8], t: usize) -> bool
     let n = first.len();
     let mut i = 0;
     while i < n {
-        let at = (i + t) % n;
-        if first[at] != second[i] {
+        if block_at(first, i + t) != second[i] {
             return false;
         }
         i += 1;

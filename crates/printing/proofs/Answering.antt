@@ -97,13 +97,13 @@ module _ (o : Option (List ℕ)) (read : LineRead) (is : read ≡ lineRead o) wh
 
 module _ (line written : List ℕ) (read : LineRead) where
   by-unreadable : (o : Option (List ℕ)) → read ≡ lineRead o → read .readable ≡ false → (to : ℕ) (sh : Shown) → sh ≡ nowhere → Puts line 0 unreadableLine written to
-      → Prints (linesOf o) (printerOf o) line written (record { length = to; printer = record { read = read; shown = sh } })
+      → Prints (linesOf stockLines o) (printerOf o) line written (record { length = to; printer = record { read = read; shown = sh } })
   unfolding printerOf
   by-unreadable none is f to sh e w = (rw (w .0, is, e), w .1)
   by-unreadable (some counts) is f to sh e w = absurd (false≢true (sym f ∙ ap (λ (x : LineRead). x .readable) is))
 
   by-stock : (o : Option (List ℕ)) → read ≡ lineRead o → read .readable ≡ true → (b : Begun) → Starts (stockOf read) line written b
-      → Prints (linesOf o) (printerOf o) line written (record { length = b .length; printer = record { read = read; shown = b .shown } })
+      → Prints (linesOf stockLines o) (printerOf o) line written (record { length = b .length; printer = record { read = read; shown = b .shown } })
   unfolding printerOf
   by-stock none is f b w = absurd (false≢true (sym (ap (λ (x : LineRead). x .readable) is) ∙ f))
   by-stock (some counts) is f b w = go (rw (is, take-append-seam counts (replicate (128 - length counts) 0)) at w)

@@ -1,6 +1,6 @@
 -- Proofs: nobody needs to read these to know what holds.
 pub mod Listing
 mod Standing
-mod Moving
-mod Answering
+pub mod Moving
+pub mod Answering
 pub mod Theorems

@@ -67,7 +67,7 @@ module _ (counts : List ℕ) (sh : Shown) (st : Stands counts sh) where
 
 -- ---- the first
 
-drop-zeros : (n m : ℕ) → _≡_ {A = List ℕ} (drop n (replicate m 0)) (replicate (m - n) 0)
+pub drop-zeros : (n m : ℕ) → _≡_ {A = List ℕ} (drop n (replicate m 0)) (replicate (m - n) 0)
 drop-zeros zero m = let e : m - 0 ≡ m = omega arith in rw e
 drop-zeros (suc n) zero = let e : 0 - suc n ≡ 0 = omega arith in rw e
 drop-zeros (suc n) (suc m) = let e : suc m - suc n ≡ m - n = omega arith in rw e (drop-zeros n m)

@@ -70,7 +70,7 @@ module _ (counts : List ℕ) (k : IsStock counts) (i : ℕ) (l : i < total count
     unfolding shownAt
     inside = rw is (omega (arith, length-append s (replicate (64 - length s) 0)))
 
-    pub fits-at : i < 10000 → Fits sh
+    pub fits-at : i < 1000000 → Fits sh
     fits-at h = record { inside = inside; small = omega (arith, number-is); short = rw (strip-is, number-is) (strip-length i s (omega (arith, size, k .short)) two-digits) }
 
     pub text-at : shownText sh ≡ stripLine i s

@@ -49,11 +49,11 @@ next-one-outcome κs a x y s t h k = (h .0 ∙ sym (k .0), h .1 ∙ sym (k .1))
 -- of a line that can be read, the lines of its stock; of any other, one line
 pub output-read : (counts input : List ℕ) → Readable counts input → output input ≡ stockLines counts
 unfolding output
-output-read counts input r = ap linesOf (readable-read counts input r)
+output-read counts input r = ap (linesOf stockLines) (readable-read counts input r)
 
 pub output-unreadable : (input : List ℕ) → ((counts : List ℕ) → Readable counts input → ⊥) → output input ≡ unreadableLine ∷ []
 unfolding output
-output-unreadable input n = ap linesOf (nothing-read input n (readCounts input) refl)
+output-unreadable input n = ap (linesOf stockLines) (nothing-read input n (readCounts input) refl)
 
 -- of `2 1`, the lines `0 1-1-2`, `1 1-2-1` and `2 2-1-1`
 pub output-2-1 : output (50 ∷ 32 ∷ 49 ∷ 10 ∷ []) ≡
@@ -115,7 +115,7 @@ left-first counts = elim (ℕ-discrete (firstOf (stockNos counts) .0) 0) [
       )
 ]
 
-rest-of : (o : Option (List ℕ)) → rest (printerOf o) ≡ drop 1 (linesOf o)
+rest-of : (o : Option (List ℕ)) → rest (printerOf o) ≡ drop 1 (linesOf stockLines o)
 unfolding printerOf linesLeft
 rest-of none = refl
 rest-of (some counts) = rw (take-append-seam counts (replicate (128 - length counts) 0)) (left-first counts)

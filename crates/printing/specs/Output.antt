@@ -23,12 +23,12 @@ unfoldable pub stockLines : List ℕ → List (List ℕ)
 unfolding stripLines
 stockLines counts = let r = firstOf (stockNos counts) in unless r (refusedLine r ∷ []) (stripLines counts)
 
--- of what is read: where nothing can be read, one line
-abbrev pub linesOf : Option (List ℕ) → List (List ℕ)
-linesOf none = unreadableLine ∷ []
-linesOf (some counts) = stockLines counts
+-- of what is read, where a stock has these lines: where nothing can be read, one line
+abbrev pub linesOf : (List ℕ → List (List ℕ)) → Option (List ℕ) → List (List ℕ)
+linesOf stockHas none = unreadableLine ∷ []
+linesOf stockHas (some counts) = stockHas counts
 
 -- of an input. By the lines that can be read: `output-read`, `output-unreadable`, proved
 unfoldable pub output : List ℕ → List (List ℕ)
 unfolding stockLines
-output input = linesOf (readCounts input)
+output input = linesOf stockLines (readCounts input)

@@ -61,7 +61,7 @@ Shows counts sh = (sh ≡ nowhere) ⊎ Stands counts sh
 -- what a line needs of the strip that is shown: it has room
 pub record Fits (sh : Shown) : Type 0 where
   pub inside : sh .blocks ≤ length (sh .strip)
-  pub small : sh .number < 10000
+  pub small : sh .number < 1000000
   pub short : length (stripLine (sh .number) (take (sh .blocks) (sh .strip))) ≤ 200
 
 -- ---- the printer

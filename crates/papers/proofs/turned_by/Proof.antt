@@ -1,6 +1,6 @@
--- `papers::turned_by` meets its contract.
+-- `papers::turned_by` meets its contract. The invariant: the blocks passed are alike.
 use Prim.Native.Nat.{_-_}
-use native.Mathlib.Nat.{mod-lt}
+use mathlib.Core.Path.{sym, _∙_}
 use native.Mathlib.Omega.{arith}
 use lib.ListN.{length}
 use Rattle.papers.proofs.Turning.{Agreed, agreed-start, agreed-on, agreed-not, agreed-all}
@@ -13,26 +13,25 @@ Inv-loop first second t n i₀ i = Agreed first second t i
 abbrev μ-loop : tie.MeasureT-loop
 μ-loop first second t n i₀ i = length first - i
 
-loop-holds : tie.Need-loop-holds Inv-loop μ-loop
-loop-holds c = agreed-start _ _ _
-
-shared-slice-read-if1 : tie.Need-shared-slice-read-if1 Inv-loop μ-loop
-shared-slice-read-if1 c = mod-lt _ (omega arith)
+block-at-requires : tie.Need-block-at-requires Inv-loop μ-loop
+block-at-requires c κs = let p = c .before .before .before .before .pre in (p .1, omega (arith, p .2))
 
 returns : tie.Need-returns Inv-loop μ-loop
 returns c =
-    let l = c .before .before .before .before in
-    agreed-not _ _ _ _ (l .before .pre .2) (l .loop .inv) (c .before .before .before .loop-test .taken) (c .if1 .taken)
+    let b = c .before .before in
+    let l = b .before .before in
+    agreed-not _ _ _ _ (l .before .before .before .pre .2) (l .loop .inv) (omega arith) (λ e. c .if1 .taken (b .block-at .ensures ∙ e))
 
 loop-again : tie.Need-loop-again Inv-loop μ-loop
 loop-again c =
-    let l = c .before .before .before .before in
-    agreed-on _ _ _ _ (l .before .pre .2) (l .loop .inv) (c .before .before .before .loop-test .taken) (c .if1 .left)
+    let b = c .before .before in
+    let l = b .before .before in
+    agreed-on _ _ _ _ (l .before .before .before .pre .2) (l .loop .inv) (omega arith) (sym (b .block-at .ensures) ∙ c .if1 .left)
 
 returns-2 : tie.Need-returns-2 Inv-loop μ-loop
 returns-2 c =
     let l = c .before in
-    agreed-all _ _ _ _ (l .before .pre .2) (l .loop .inv) (l .before .pre .0) (c .loop-test .left)
+    agreed-all _ _ _ _ (l .before .before .before .pre .2) (l .loop .inv) (l .before .before .before .pre .0) (omega arith)
 
 pub turned-by-spec : {M : Type 1} → statement M
 turned-by-spec =
@@ -40,10 +39,9 @@ turned-by-spec =
     (tie.spec
     Inv-loop
     μ-loop
-    loop-holds
+    (λ c. agreed-start _ _ _)
     (λ c. omega arith)
-    (λ c. omega arith)
-    shared-slice-read-if1
+    block-at-requires
     (λ c. omega arith)
     returns
     (λ c. omega arith)

@@ -1,0 +1,3 @@
+-- What the catalogue prints for an input (to be believed), and the states of its printer.
+pub mod Output
+pub mod States

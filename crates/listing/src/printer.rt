@@ -1,0 +1,104 @@
+// The printer of the catalogue: a state by value, with a step that gives the bytes of the next line.
+use crate::shown::Shown;
+use crate::shown::show_first;
+use crate::shown::show_next;
+use crate::shown::show_none;
+use counting::count::count;
+use counts::LineRead;
+use counts::read_line;
+use lines::writing::put_refusal;
+use lines::writing::put_strip;
+use lines::writing::put_unreadable;
+ghost use Prim.Native.Nat.{_≤_};
+ghost use mathlib.Core.Option.{some};
+ghost use lib.ListN.{length};
+ghost use Rattle.counts.specs.Reading.{readCounts};
+ghost use Rattle.lines.specs.Puts.{Puts};
+ghost use Rattle.listing.specs.Output.{catalogueLines, output};
+ghost use Rattle.listing.specs.States.{shownText, Fits, Sound, shownFirst, printerOf, after, rest, Begins, Prints};
+
+// What was read, and the strip that is shown.
+pub struct Printer {
+    pub read: LineRead,
+    pub shown: Shown,
+}
+
+// How many bytes of the lent line are the next line, and the printer after it. No bytes: nothing is left to print.
+pub struct Printed {
+    pub length: usize,
+    pub printer: Printer,
+}
+
+// The same of a stock: the length of its first line, and the strip that is shown then.
+pub struct Begun {
+    pub length: usize,
+    pub shown: Shown,
+}
+
+// The line of the strip that is shown; nothing where there is none.
+fn put_shown(shown: Shown, line: &mut [u8]) -> usize
+    requires { ⌜ Fits shown × (200 ≤ length (now line)) ⌝ }
+    ensures { λ r. ⌜ Puts (now (line .entry)) 0 (shownText shown) (now (line .exit)) r ⌝ }
+{
+    let n = shown.blocks;
+    if n == 0 {
+        return 0;
+    }
+    let strip = shown.strip;
+    put_strip(line, shown.number, &strip[..n])
+}
+
+// The first line of a stock.
+fn begin(stock: &[u16], line: &mut [u8]) -> Begun
+    requires { ⌜ 200 ≤ length (now line) ⌝ }
+    ensures { λ r. ⌜ Begins (catalogueLines (now (stock .entry))) (shownFirst (some (now (stock .entry)))) (now (line .entry)) (now (line .exit)) r ⌝ }
+{
+    let counted = count(stock);
+    let refusal = counted.refusal;
+    let no = refusal.no;
+    if no != 0 {
+        let length = put_refusal(line, refusal);
+        let shown = show_none();
+        return Begun { length, shown };
+    }
+    let shown = show_first(stock);
+    let length = put_shown(shown, line);
+    Begun { length, shown }
+}
+
+// The first line of an input.
+pub fn first_line(input: &[u8], line: &mut [u8]) -> Printed
+    requires { ⌜ 200 ≤ length (now line) ⌝ }
+    ensures { λ r. ⌜ Prints (output (now (input .entry))) (printerOf (readCounts (now (input .entry)))) (now (line .entry)) (now (line .exit)) r ⌝ }
+{
+    let read = read_line(input);
+    if !read.readable {
+        let length = put_unreadable(line);
+        let shown = show_none();
+        let printer = Printer { read, shown };
+        return Printed { length, printer };
+    }
+    let kinds = read.kinds;
+    let counts = read.counts;
+    let begun = begin(&counts[..kinds], line);
+    let shown = begun.shown;
+    let printer = Printer { read, shown };
+    Printed {
+        length: begun.length,
+        printer,
+    }
+}
+
+// The next line, if one is left.
+pub fn next_line(printer: Printer, line: &mut [u8]) -> Printed
+    requires { ⌜ Sound printer × (200 ≤ length (now line)) ⌝ }
+    ensures { λ r. ⌜ Prints (rest printer) (after printer) (now (line .entry)) (now (line .exit)) r ⌝ }
+{
+    let read = printer.read;
+    let kinds = read.kinds;
+    let counts = read.counts;
+    let shown = show_next(&counts[..kinds], printer.shown);
+    let length = put_shown(shown, line);
+    let printer = Printer { read, shown };
+    Printed { length, printer }
+}

@@ -1,0 +1,2 @@
+-- TO BE BELIEVED: what a search in steps finds.
+pub mod Searching
