@@ -20,7 +20,7 @@ pub fn seek(strip: &mut [u8], given: u64) -> Ended
 {
     let mut steps: u64 = 0;
     loop {
-        // looked for before the steps are compared: so none left is known where exactly the given steps reach the last strip
+        // The next strip is looked for before the steps are compared, so that none left is known where exactly the given steps reach the last strip.
         if !next_entry(strip) {
             return Ended { outcome: 2, steps };
         }

@@ -11,7 +11,7 @@ use Rattle.rules.specs.Book.{same, placeIn}
 use Rattle.rules.proofs.Places.{same-self, same-true}
 use Rattle.papers.specs.Papers.{turned, turns, isTurn}
 use Rattle.papers.proofs.Turning.{length-turns, turns-at}
-use Rattle.dictionary.specs.Dictionary.{before, dictionary}
+use Rattle.dictionary.specs.Dictionary.{dictionary}
 use Rattle.dictionary.proofs.Order.{Before, Ordered, less, equal, more, ordered, true-before}
 use Rattle.dictionary.proofs.Sorted.{Strips, In, Each}
 use Rattle.dictionary.proofs.Theorems.{dictionary-undone, before-smaller}

@@ -1,6 +1,6 @@
 // Standing: the strip that stands for an endless paper, seen on any strip of the paper.
 mod least;
-mod test;
+mod stands;
 
 pub use least::least_turn;
-pub use test::is_standing;
+pub use stands::is_standing;

@@ -1,4 +1,4 @@
-// Later: a strip becomes the next one in dictionary order, in its own place.
+// Succession: a strip becomes the next one in dictionary order, in its own place.
 mod ends;
 mod step;
 mod tail;

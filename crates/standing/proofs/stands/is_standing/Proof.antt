@@ -1,12 +1,12 @@
--- `standing::test::is_standing` meets its contract. The invariant: none of the turns passed comes before the strip.
+-- `standing::stands::is_standing` meets its contract. The invariant: none of the turns passed comes before the strip.
 use Prim.Native.Nat.{ℕ, _+_, _*_, _-_, _≤_, _<_}
 use mathlib.Core.Path.{_≡_}
 use mathlib.Core.List.{List}
 use native.Mathlib.Omega.{arith}
 use lib.ListN.{length, getD}
 use Rattle.standing.proofs.NoneBefore.{NoneBefore, none-start, none-alike, none-later, one-before, none-before, none-round}
-use Rattle.standing.proofs.test.is_standing.Statement.{statement}
-use Rattle.standing.proofs.test.is_standing.Tie as tie
+use Rattle.standing.proofs.stands.is_standing.Statement.{statement}
+use Rattle.standing.proofs.stands.is_standing.Tie as tie
 
 abbrev Inv-loop : tie.InvT-loop
 Inv-loop strip n t₀ k₀ t k = (t ≤ 2 * length strip) × (k < length strip) × NoneBefore strip t k
