@@ -5,6 +5,7 @@
 #include "calls.h"
 #include "moves.h"
 #include "pairs.h"
+#include "papers.h"
 #include "sheets.h"
 
 int main(int count, char **arguments)
@@ -25,6 +26,7 @@ int main(int count, char **arguments)
     print_moves(works, most);
     print_all_calls(works);
     print_pairs(works);
+    print_papers(works);
     print_sheets(works);
     return 0;
 }

@@ -13,15 +13,6 @@ module _ (test : List ℕ → Bool) where
   abbrev pub Fail : List (List ℕ) → ℕ → Type 0
   Fail l m = (i : ℕ) → i < m → test (getD l i []) ≡ false
 
-  pub passed-over-most : (l : List (List ℕ)) → passedOver test l ≤ length l
-  unfolding passedOver
-  passed-over-most [] = omega arith
-  passed-over-most (s ∷ l) = go (test s) (passed-over-most l)
-    where
-      go : (b : Bool) → passedOver test l ≤ length l → ahead b (passedOver test l) ≤ suc (length l)
-      go true h = omega arith
-      go false h = omega arith
-
   -- all that are passed over fail
   pub passed-over-fail : (l : List (List ℕ)) → Fail l (passedOver test l)
   unfolding passedOver

@@ -1,5 +1,6 @@
 // A whole book compared with what the calls answer.
 use crate::filed::compare_dictionary;
+use crate::hung::compare_hung;
 use crate::moves::move_agrees;
 use crate::pairs::compare_pair;
 use crate::rows::directions_at;
@@ -16,6 +17,7 @@ use crate::spoiled::compare_sheets;
 use crate::tally;
 use crate::tally::Tally;
 use crate::tally::note;
+use crate::unfit::compare_unfit;
 
 // The strip of a number by itself.
 fn compare_strip(tally: &mut Tally, stock: &[u16], book: &[u8], i: usize, work: &mut [u8]) {
@@ -64,23 +66,30 @@ fn compare_all_pairs(tally: &mut Tally, stock: &[u16], book: &[u8], i: usize, n:
     }
 }
 
-// The pairs and the sheets of the strip of a number, for stocks of up to 4 blocks.
+// The pairs and the sheets of the strip of a number, and what is refused beside it, for stocks of up to 4 blocks.
 fn compare_small(tally: &mut Tally, stock: &[u16], book: &[u8], i: usize, n: usize) {
     if n <= 4 {
         compare_all_pairs(tally, stock, book, i, n);
         compare_sheets(tally, stock, book, i, n);
+        compare_unfit(tally, stock, strip_at(book, i, n));
     }
 }
 
-fn compare_strips(tally: &mut Tally, stock: &[u16], book: &[u8], work: &mut [u8]) {
+// All that is compared of the strip of a number, but for the dictionary.
+fn compare_number(tally: &mut Tally, stock: &[u16], book: &[u8], i: usize, work: &mut [u8]) {
     let n = work.len();
+    compare_strip(tally, stock, book, i, work);
+    compare_moves(tally, stock, book, i, work);
+    compare_pairs(tally, stock, book, i, n);
+    compare_small(tally, stock, book, i, n);
+    compare_hung(tally, stock, book, i, work);
+}
+
+fn compare_strips(tally: &mut Tally, stock: &[u16], book: &[u8], work: &mut [u8]) {
     let strips = book.len() / 8;
     let mut i = 0;
     while i < strips {
-        compare_strip(tally, stock, book, i, work);
-        compare_moves(tally, stock, book, i, work);
-        compare_pairs(tally, stock, book, i, n);
-        compare_small(tally, stock, book, i, n);
+        compare_number(tally, stock, book, i, work);
         i += 1;
     }
 }

@@ -23,7 +23,7 @@ fn put(order: &mut Order, i: usize, number: usize) {
 }
 
 // Whether a strip comes before another of the same length: the first place at which they differ decides, the smaller kind first.
-fn before(one: &[u8], other: &[u8]) -> bool {
+pub fn before(one: &[u8], other: &[u8]) -> bool {
     let mut i = 0;
     while i < one.len() {
         let kind = block(one, i);

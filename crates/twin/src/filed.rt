@@ -1,4 +1,4 @@
-// The calls on dictionary numbers compared with a book in dictionary order.
+// The calls on dictionary numbers compared with a book in dictionary order, which Next paper is then compared with.
 use crate::dictionary::MOST;
 use crate::dictionary::Order;
 use crate::dictionary::arrange;
@@ -7,6 +7,7 @@ use crate::rows::beside;
 use crate::rows::copy;
 use crate::rows::same;
 use crate::rows::strip_at;
+use crate::search::compare_papers;
 use crate::single::is;
 use crate::tally;
 use crate::tally::Tally;
@@ -131,4 +132,5 @@ pub fn compare_dictionary(tally: &mut Tally, stock: &[u16], book: &[u8], work: &
     let mut order: Order = [0; MOST];
     arrange(&mut order, book, work.len());
     compare_entries(tally, stock, book, &order, work);
+    compare_papers(tally, stock, book, &order, work);
 }

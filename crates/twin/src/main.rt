@@ -1,24 +1,29 @@
 // Builds whole books by the rule of document 01 itself, for every stock of up to 7 blocks in which each kind has blocks, and for those of up to 4
 // blocks also with a kind without blocks before some of the kinds, and compares them number by number with what the calls answer. Words and strips are
 // listed one after the other: nothing is ranked, and no strip is moved to get the next one. The dictionary of a stock is its book, sorted by comparing
-// strips block by block. For stocks of up to 4 blocks every strip is compared with every other, and press sheets are made from the strips of the book,
-// cut and spoiled, and compared with what is rebuilt of them.
+// strips block by block. The turns of a strip are written down one after the other, and the next paper is looked for in the sorted book. For stocks of up
+// to 4 blocks every strip is compared with every other, press sheets are made from the strips of the book, cut and spoiled, and compared with what is
+// rebuilt of them, and strips and stocks are made that the calls on endless papers refuse.
 mod books;
 mod compare;
 mod dictionary;
 mod filed;
+mod hung;
 mod moves;
 mod pairs;
 mod parting;
 mod patterns;
 mod rows;
 mod runs;
+mod search;
 mod sheets;
 mod shelf;
 mod single;
 mod spoiled;
 mod stocks;
 mod tally;
+mod turns;
+mod unfit;
 
 use books::build;
 use compare::compare_book;
@@ -29,16 +34,9 @@ use shelf::Book;
 use shelf::Shelf;
 use shelf::rows_of;
 use stocks::cut;
+use stocks::first_counts;
 use tally::Tally;
 ghost use Prim.Native.Nat.{_≤_};
-
-// The first counts of some.
-fn front(counts: &[u16], kinds: usize) -> &[u16] {
-    if kinds <= counts.len() {
-        return &counts[0..kinds];
-    }
-    counts
-}
 
 // A book with a strip of n blocks to work on.
 fn compare_on(tally: &mut Tally, stock: &[u16], shelf: &Shelf, book: Book, n: usize)
@@ -53,7 +51,7 @@ fn compare_stock(lists: &Lists, tally: &mut Tally, n: usize, counts: [u16; 8], k
     requires { ⌜ n ≤ 8 ⌝ }
 {
     let mut shelf: Shelf = [0; BYTES];
-    let stock = front(&counts, kinds);
+    let stock = first_counts(&counts, kinds);
     let book = build(lists, &mut shelf, stock);
     compare_on(tally, stock, &shelf, book, n);
 }

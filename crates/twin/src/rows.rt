@@ -62,6 +62,14 @@ pub fn block(strip: &[u8], i: usize) -> u8 {
     0
 }
 
+// The first of some bytes.
+pub fn front(bytes: &[u8], length: usize) -> &[u8] {
+    if length <= bytes.len() {
+        return &bytes[0..length];
+    }
+    bytes
+}
+
 // Puts a strip into a lent one of the same length.
 pub fn copy(work: &mut [u8], strip: &[u8]) {
     let mut i = 0;

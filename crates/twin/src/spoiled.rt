@@ -1,5 +1,6 @@
 // Rebuilding compared with a book, on the sheets of up to three moves from each of its strips: cut at each length, or going on behind their end; with each
 // byte spoiled in turn; and with every byte spoiled from one on.
+use crate::rows::front;
 use crate::rows::last;
 use crate::rows::least;
 use crate::rows::same;
@@ -94,14 +95,6 @@ fn of_records(sheet: &[u8]) -> Refusal {
         return refusal;
     }
     Refusal { no: 0, place: 0 }
-}
-
-// The first bytes of a sheet.
-fn front(sheet: &[u8], length: usize) -> &[u8] {
-    if length <= sheet.len() {
-        return &sheet[0..length];
-    }
-    sheet
 }
 
 // What is to come of the first bytes of a damaged sheet, with so many moves left and so much room.

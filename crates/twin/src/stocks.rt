@@ -8,6 +8,14 @@ pub struct Parts {
     pub kinds: usize,
 }
 
+// The first counts of some.
+pub fn first_counts(counts: &[u16], kinds: usize) -> &[u16] {
+    if kinds <= counts.len() {
+        return &counts[0..kinds];
+    }
+    counts
+}
+
 // One block more of the kind at an index from 0.
 fn add(counts: &mut [u16; 8], kind: usize) {
     if kind < 8 {

@@ -47,6 +47,18 @@ pub const REBUILT_TAIL: usize = 19;
 
 pub const KIND: usize = 20;
 
+pub const SAME_PAPER: usize = 21;
+
+pub const SAME_STANDING: usize = 22;
+
+pub const STAND: usize = 23;
+
+pub const STAND_AGAIN: usize = 24;
+
+pub const NEXT_PAPER: usize = 25;
+
+pub const PAPERS_REFUSED: usize = 26;
+
 fn add_one(tally: &mut Tally, i: usize) {
     if i < 64 {
         let seen = tally[i];
@@ -110,6 +122,19 @@ fn print_dictionary(tally: &Tally) {
     line(b"To book: ", tally, TO_BOOK);
 }
 
+fn print_papers(tally: &Tally) {
+    line(b"Same paper: ", tally, SAME_PAPER);
+    line(
+        b"Same paper, by the standing strips: ",
+        tally,
+        SAME_STANDING,
+    );
+    line(b"Stand: ", tally, STAND);
+    line(b"Stand again: ", tally, STAND_AGAIN);
+    line(b"Next paper: ", tally, NEXT_PAPER);
+    line(b"Papers, refused: ", tally, PAPERS_REFUSED);
+}
+
 fn print_sheets(tally: &Tally) {
     line(b"Rebuild, cut or longer: ", tally, REBUILT_CUT);
     line(b"Rebuild, one byte spoiled: ", tally, REBUILT_BYTE);
@@ -129,5 +154,6 @@ pub fn print(tally: &Tally) {
     print_moves(tally);
     print_pairs(tally);
     print_dictionary(tally);
+    print_papers(tally);
     print_sheets(tally);
 }

@@ -7,10 +7,10 @@ use Rattle.twin.proofs.compare.compare_strips.Statement.{statement}
 use Rattle.twin.proofs.compare.compare_strips.Tie as tie
 
 abbrev Inv-loop : tie.InvT-loop
-Inv-loop tally₀ stock book work₀ n strips i₀ tally work i = length work ≡ length work₀
+Inv-loop tally₀ stock book work₀ strips i₀ tally work i = length work ≡ length work₀
 
 abbrev μ-loop : tie.MeasureT-loop
-μ-loop tally₀ stock book work₀ n strips i₀ tally work i = strips - i
+μ-loop tally₀ stock book work₀ strips i₀ tally work i = strips - i
 
 pub compare-strips-spec : {M : Type 1} → statement M
 compare-strips-spec =
@@ -19,9 +19,6 @@ compare-strips-spec =
     Inv-loop
     μ-loop
     (λ c. refl)
-    (λ c κs. tt)
-    (λ c κs. tt)
-    (λ c κs. tt)
     (λ c κs. tt)
     (λ c. omega arith)
     (λ c. omega arith)

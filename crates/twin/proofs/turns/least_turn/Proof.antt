@@ -1,0 +1,27 @@
+-- Proofs. `twin::turns::least_turn` is safe and ends.
+use Prim.Native.Nat.{_-_}
+use native.Mathlib.Omega.{arith}
+use lib.ListN.{length}
+use Rattle.twin.proofs.turns.least_turn.Statement.{statement}
+use Rattle.twin.proofs.turns.least_turn.Tie as tie
+
+abbrev Inv-loop : tie.InvT-loop
+Inv-loop strip best₀ t₀ best t = Unit {0}
+
+abbrev μ-loop : tie.MeasureT-loop
+μ-loop strip best₀ t₀ best t = length strip - t
+
+pub least-turn-spec : {M : Type 1} → statement M
+least-turn-spec =
+    tie.close
+    (tie.spec
+    Inv-loop
+    μ-loop
+    (λ c. tt)
+    (λ c. omega arith)
+    (λ c κs. tt)
+    (λ c. omega arith)
+    (λ c. tt)
+    (λ c. omega arith)
+    (λ c. tt)
+    (λ c. tt))
