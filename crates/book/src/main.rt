@@ -1,30 +1,6 @@
-// Prints the book of a stock: reads one line of counts from standard input, and writes the lines of its output.
-use io::read_full;
-use io::write_all;
-use printing::printer::first_line;
-use printing::printer::next_line;
+// Prints the book of a stock: reads one line of counts from standard input, and writes a line for each strip, with its number.
+use printout::print_out;
 
-// No output has more than 4,096 lines.
-fn print(input: &[u8]) {
-    let mut line = [0u8; 256];
-    let mut printed = first_line(input, &mut line);
-    let mut lines: usize = 0;
-    while lines < 4096 {
-        let n = printed.length;
-        if n == 0 {
-            return;
-        }
-        if !write_all(1, &line[..n]) {
-            return;
-        }
-        printed = next_line(printed.printer, &mut line);
-        lines += 1;
-    }
-}
-
-// One byte more than a line may have: a longer input is unreadable.
 fn main() {
-    let mut input = [0u8; 256];
-    let n = read_full(0, &mut input);
-    print(&input[..n]);
+    print_out(false);
 }

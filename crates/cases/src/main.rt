@@ -3,18 +3,19 @@
 use io::buffer;
 use io::read_full;
 use io::write_all;
+use printing::printer::first_line;
+use printing::printer::next_line;
 
 // A line is held until the length of the next one is known: it is the last where there is none.
-fn show(held: &[u8], lines: usize, next: usize) {
+fn show_held(held: &[u8], lines: usize, next: usize) {
     if lines <= 6 || next == 0 {
         write_all(1, held);
     }
 }
 
-// The two printers have types of their own, so each has its loop.
-fn show_book(input: &[u8]) {
+fn show(input: &[u8], papers: bool) {
     let mut line = [0u8; 256];
-    let mut printed = printing::printer::first_line(input, &mut line);
+    let mut printed = first_line(input, papers, &mut line);
     let mut lines: usize = 0;
     while lines < 4096 {
         let n = printed.length;
@@ -22,32 +23,16 @@ fn show_book(input: &[u8]) {
             return;
         }
         let held = line;
-        printed = printing::printer::next_line(printed.printer, &mut line);
+        printed = next_line(printed.printer, &mut line);
         lines += 1;
-        show(&held[..n], lines, printed.length);
-    }
-}
-
-fn show_catalogue(input: &[u8]) {
-    let mut line = [0u8; 256];
-    let mut printed = listing::printer::first_line(input, &mut line);
-    let mut lines: usize = 0;
-    while lines < 4096 {
-        let n = printed.length;
-        if n == 0 {
-            return;
-        }
-        let held = line;
-        printed = listing::printer::next_line(printed.printer, &mut line);
-        lines += 1;
-        show(&held[..n], lines, printed.length);
+        show_held(&held[..n], lines, printed.length);
     }
 }
 
 fn show_case(input: &[u8]) {
-    show_book(input);
+    show(input, false);
     write_all(1, b"%\n");
-    show_catalogue(input);
+    show(input, true);
     write_all(1, b"%\n");
 }
 

@@ -1,19 +1,15 @@
 -- Proofs. What the printer's functions answer, from what their parts answer.
 use Prim.Native.Nat.{ℕ, _-_, _≤_}
 use mathlib.Core.Path.{_≡_, refl, sym, ap, _∙_}
-use mathlib.Core.Bool.{true, false, false≢true}
+use mathlib.Core.Bool.{Bool, true, false, false≢true}
 use mathlib.Core.Option.{Option, none, some}
 use mathlib.Core.List.{List, [], _∷_}
-use native.Mathlib.Decide.{decLt, ℕ-discrete}
 use native.Mathlib.Nat.{zero-add}
 use native.Mathlib.Omega.{arith}
 use lib.ListN.{length, getD, take, replicate, length-append}
 use lib.Seq.{take-append-seam}
-use Rattle.rules.specs.Stock.{sum, lastCount}
-use Rattle.rules.specs.Refusals.{firstOf, stockNos}
+use Rattle.rules.specs.Refusals.{firstOf}
 use Rattle.rules.proofs.Refusals.{unless-refused, unless-passed}
-use Rattle.rules.proofs.Checks.{stock-empty, stock-over, stock-zero, stock-long, stock-fine, accepted}
-use Rattle.rules.proofs.Prefixes.{total-some}
 use Rattle.stock.specs.declared.Refusal.{Refusal}
 use Rattle.stock.specs.Refused.{refusal}
 use Rattle.stock.proofs.Tested.{passed, stopped}
@@ -24,10 +20,11 @@ use Rattle.lines.specs.Puts.{put, Puts}
 use Rattle.printing.specs.declared.shown.Shown.{Shown}
 use Rattle.printing.specs.declared.printer.Begun.{Begun}
 use Rattle.printing.specs.declared.printer.Printer.{Printer}
-use Rattle.printing.specs.Output.{stripLines, stockLines, linesOf, output}
+use Rattle.printing.specs.Output.{stripLines, nosOf, stockLines, linesOf, output}
 use Rattle.printing.specs.States.{shownAt, nowhere, nextShown, shownText, stockOf, Sound, shownFirst, printerOf, after, rest, asBegun, Begins, Prints}
-use Rattle.printing.proofs.Listing.{lines-many, line-at}
-use Rattle.printing.proofs.Standing.{text-at, text-none, text-some, text-next}
+use Rattle.printing.proofs.Refused.{none-refused}
+use Rattle.printing.proofs.Lines.{some-strip, line-at}
+use Rattle.printing.proofs.Showing.{text-at, text-none, text-some, text-next}
 
 -- ---- the line of the strip that is shown
 
@@ -40,50 +37,38 @@ module _ (sh : Shown) (line : List ℕ) where
 
 -- ---- the first line of a stock
 
--- the place of a refused stock is a kind
-pub refused-place : (counts : List ℕ) → firstOf (stockNos counts) .1 ≤ 16
-refused-place counts = elim (ℕ-discrete (length counts) 0) [
-  | yes e ↦ rw (← stock-empty counts e) (omega arith)
-  | no e ↦ elim (decLt 16 (length counts)) [
-    | yes l ↦ rw (← stock-over counts l) (omega arith)
-    | no l ↦ elim (ℕ-discrete (lastCount counts) 0) [
-      | yes z ↦ rw (← stock-zero counts e (omega arith) z) (omega arith)
-      | no z ↦ elim (decLt 64 (sum counts)) [
-        | yes n ↦ rw (← stock-long counts e (omega arith) z n) (omega arith)
-        | no n ↦ rw (← stock-fine counts e (omega arith) z (omega arith)) (omega arith)
-      ]
-    ]
-  ]
-]
-
--- what the first line of a stock is
-abbrev Starts : List ℕ → List ℕ → List ℕ → Begun → Type 0
-Starts counts line written b = Begins (stockLines counts) (shownFirst (some counts)) line written b
+-- what it is
+abbrev Starts : Bool → List ℕ → List ℕ → List ℕ → Begun → Type 0
+Starts papers counts line written b = Begins (stockLines papers counts) (shownFirst papers (some counts)) line written b
 
 begun-is : (line written text other : List ℕ) (to : ℕ) (sh one : Shown) → text ≡ other → sh ≡ one → Puts line 0 text written to
     → (_≡_ {A = Begun} record { length = to; shown = sh } (asBegun other one)) × (written ≡ put line 0 other)
 begun-is line written text other to sh one e f w = rw (← e) (rw (w .0, zero-add (length text), f), w .1)
 
-module _ (counts line written : List ℕ) (r : Refusal) (is : r ≡ refusal (firstOf (stockNos counts))) (to : ℕ) (sh : Shown) where
-  refused-text : (firstOf (stockNos counts) .0 ≡ 0 → ⊥) → refusedLine (r .no, r .place) ≡ getD (stockLines counts) 0 []
+module _ (papers : Bool) (counts line written : List ℕ) (r : Refusal) (is : r ≡ refusal (firstOf (nosOf papers counts))) (to : ℕ) (sh : Shown) where
+  refused-text : (firstOf (nosOf papers counts) .0 ≡ 0 → ⊥) → refusedLine (r .no, r .place) ≡ getD (stockLines papers counts) 0 []
   unfolding stockLines
-  refused-text n = rw is (sym (ap (λ (l : List (List ℕ)). getD l 0 []) (unless-refused (refusedLine (firstOf (stockNos counts)) ∷ []) (stripLines counts) (firstOf (stockNos counts)) n)))
+  refused-text n =
+      rw is
+      (sym (ap (λ (l : List (List ℕ)). getD l 0 []) (unless-refused (refusedLine (firstOf (nosOf papers counts)) ∷ []) (stripLines papers counts) (firstOf (nosOf papers counts)) n)))
 
-  pub begun-refused : (r .no ≡ 0 → ⊥) → sh ≡ nowhere → Puts line 0 (refusedLine (r .no, r .place)) written to → Starts counts line written (record { length = to; shown = sh })
+  pub begun-refused : (r .no ≡ 0 → ⊥) → sh ≡ nowhere → Puts line 0 (refusedLine (r .no, r .place)) written to → Starts papers counts line written (record { length = to; shown = sh })
   begun-refused n e w =
-      let z = stopped (stockNos counts) r is n in
-      begun-is line written _ _ to sh _ (refused-text z) (e ∙ sym (unless-refused nowhere (shownAt counts 0) (firstOf (stockNos counts)) z)) w
+      let z = stopped (nosOf papers counts) r is n in
+      begun-is line written _ _ to sh _ (refused-text z) (e ∙ sym (unless-refused nowhere (shownAt papers counts 0) (firstOf (nosOf papers counts)) z)) w
 
-  first-text : (firstOf (stockNos counts) .0 ≡ 0) → sh ≡ shownAt counts 0 → shownText sh ≡ getD (stockLines counts) 0 []
+  first-text : firstOf (nosOf papers counts) .0 ≡ 0 → sh ≡ shownAt papers counts 0 → shownText sh ≡ getD (stockLines papers counts) 0 []
   unfolding stockLines
   first-text z e =
-      text-at counts (accepted counts z) 0 (omega (arith, total-some counts)) sh e ∙ sym (line-at counts 0 (omega (arith, lines-many counts, total-some counts)))
-      ∙ sym (ap (λ (l : List (List ℕ)). getD l 0 []) (unless-passed (refusedLine (firstOf (stockNos counts)) ∷ []) (stripLines counts) (firstOf (stockNos counts)) z))
+      let k = none-refused papers counts z in
+      let some-one = some-strip counts papers k in
+      text-at papers counts k 0 some-one sh e ∙ sym (line-at papers counts 0 some-one)
+      ∙ sym (ap (λ (l : List (List ℕ)). getD l 0 []) (unless-passed (refusedLine (firstOf (nosOf papers counts)) ∷ []) (stripLines papers counts) (firstOf (nosOf papers counts)) z))
 
-  pub begun-shown : r .no ≡ 0 → sh ≡ shownAt counts 0 → Puts line 0 (shownText sh) written to → Starts counts line written (record { length = to; shown = sh })
+  pub begun-shown : r .no ≡ 0 → sh ≡ shownAt papers counts 0 → Puts line 0 (shownText sh) written to → Starts papers counts line written (record { length = to; shown = sh })
   begun-shown n e w =
-      let z = passed (stockNos counts) r is n in
-      begun-is line written _ _ to sh _ (first-text z e) (e ∙ sym (unless-passed nowhere (shownAt counts 0) (firstOf (stockNos counts)) z)) w
+      let z = passed (nosOf papers counts) r is n in
+      begun-is line written _ _ to sh _ (first-text z e) (e ∙ sym (unless-passed nowhere (shownAt papers counts 0) (firstOf (nosOf papers counts)) z)) w
 
 -- ---- the first line of an input
 
@@ -95,40 +80,41 @@ module _ (o : Option (List ℕ)) (read : LineRead) (is : read ≡ lineRead o) wh
       go none = omega arith
       go (some counts) = omega (arith, length-append counts (replicate (128 - length counts) 0))
 
-module _ (line written : List ℕ) (read : LineRead) where
+module _ (papers : Bool) (line written : List ℕ) (read : LineRead) where
   by-unreadable : (o : Option (List ℕ)) → read ≡ lineRead o → read .readable ≡ false → (to : ℕ) (sh : Shown) → sh ≡ nowhere → Puts line 0 unreadableLine written to
-      → Prints (linesOf stockLines o) (printerOf o) line written (record { length = to; printer = record { read = read; shown = sh } })
+      → Prints (linesOf papers o) (printerOf papers o) line written (record { length = to; printer = record { read = read; papers = papers; shown = sh } })
   unfolding printerOf
   by-unreadable none is f to sh e w = (rw (w .0, is, e), w .1)
   by-unreadable (some counts) is f to sh e w = absurd (false≢true (sym f ∙ ap (λ (x : LineRead). x .readable) is))
 
-  by-stock : (o : Option (List ℕ)) → read ≡ lineRead o → read .readable ≡ true → (b : Begun) → Starts (stockOf read) line written b
-      → Prints (linesOf stockLines o) (printerOf o) line written (record { length = b .length; printer = record { read = read; shown = b .shown } })
+  by-stock : (o : Option (List ℕ)) → read ≡ lineRead o → read .readable ≡ true → (b : Begun) → Starts papers (stockOf read) line written b
+      → Prints (linesOf papers o) (printerOf papers o) line written (record { length = b .length; printer = record { read = read; papers = papers; shown = b .shown } })
   unfolding printerOf
   by-stock none is f b w = absurd (false≢true (sym (ap (λ (x : LineRead). x .readable) is) ∙ f))
   by-stock (some counts) is f b w = go (rw (is, take-append-seam counts (replicate (128 - length counts) 0)) at w)
     where
-      go : Starts counts line written b → Prints (stockLines counts) (printerOf (some counts)) line written (record { length = b .length; printer = record { read = read; shown = b .shown } })
+      go : Starts papers counts line written b
+          → Prints (stockLines papers counts) (printerOf papers (some counts)) line written (record { length = b .length; printer = record { read = read; papers = papers; shown = b .shown } })
       go v = (rw (v .0, is), v .1)
 
   module _ (input : List ℕ) (is : read ≡ lineRead (readCounts input)) where
     pub printed-unreadable : read .readable ≡ false → (to : ℕ) (sh : Shown) → sh ≡ nowhere → Puts line 0 unreadableLine written to
-        → Prints (output input) (printerOf (readCounts input)) line written (record { length = to; printer = record { read = read; shown = sh } })
+        → Prints (output papers input) (printerOf papers (readCounts input)) line written (record { length = to; printer = record { read = read; papers = papers; shown = sh } })
     unfolding output
     printed-unreadable = by-unreadable (readCounts input) is
 
-    pub printed-stock : read .readable ≡ true → (b : Begun) → Starts (stockOf read) line written b
-        → Prints (output input) (printerOf (readCounts input)) line written (record { length = b .length; printer = record { read = read; shown = b .shown } })
+    pub printed-stock : read .readable ≡ true → (b : Begun) → Starts papers (stockOf read) line written b
+        → Prints (output papers input) (printerOf papers (readCounts input)) line written (record { length = b .length; printer = record { read = read; papers = papers; shown = b .shown } })
     unfolding output
     printed-stock = by-stock (readCounts input) is
 
 -- ---- the next line
 
-pub printed-next : (p : Printer) (line written : List ℕ) (to : ℕ) (sh : Shown) → Sound p → sh ≡ nextShown (stockOf (p .read)) (p .shown) → Puts line 0 (shownText sh) written to
-    → Prints (rest p) (after p) line written (record { length = to; printer = record { read = p .read; shown = sh } })
+pub printed-next : (p : Printer) (line written : List ℕ) (to : ℕ) (sh : Shown) → Sound p → sh ≡ nextShown (p .papers) (stockOf (p .read)) (p .shown) → Puts line 0 (shownText sh) written to
+    → Prints (rest p) (after p) line written (record { length = to; printer = record { read = p .read; papers = p .papers; shown = sh } })
 unfolding after
-printed-next p line written to sh s e w = go (rw (e, text-next (stockOf (p .read)) (p .shown) (s .shows)) at w)
+printed-next p line written to sh s e w = go (rw (e, text-next (p .papers) (stockOf (p .read)) (p .shown) (s .shows)) at w)
   where
     go : Puts line 0 (getD (rest p) 0 []) written to
-        → Prints (rest p) (after p) line written (record { length = to; printer = record { read = p .read; shown = sh } })
+        → Prints (rest p) (after p) line written (record { length = to; printer = record { read = p .read; papers = p .papers; shown = sh } })
     go v = (rw (v .0, zero-add (length (getD (rest p) 0 [])), e), v .1)

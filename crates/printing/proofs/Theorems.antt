@@ -1,6 +1,7 @@
 -- Theorems. The printer gives the lines of the output, one after the other; and one outcome of each open call.
-use Prim.Native.Nat.{ℕ, _+_, _-_, _≤_}
+use Prim.Native.Nat.{ℕ, min, _+_, _-_, _≤_, _<_}
 use mathlib.Core.Path.{_≡_, refl, sym, ap, _∙_}
+use mathlib.Core.Bool.{Bool, true, false}
 use mathlib.Core.Logic.{inl, inr}
 use mathlib.Core.Option.{Option, none, some}
 use mathlib.Core.List.{List, [], _∷_}
@@ -11,25 +12,28 @@ use borrow.Fn.Kinds.{Dens, endedOf}
 use denote.Triple.Clauses.{AtExit}
 use lib.ListN.{length, getD, drop, replicate, length-append}
 use lib.Seq.{take-append-seam}
-use Rattle.rules.specs.Stock.{sum}
-use Rattle.rules.specs.Book.{after as after-words, E, lay, turn, snake, bookTo, book}
-use Rattle.rules.specs.Refusals.{firstOf, stockNos}
+use Rattle.rules.specs.Stock.{total, IsStrip}
+use Rattle.rules.specs.Book.{book, placeIn}
+use Rattle.rules.specs.Refusals.{firstOf}
 use Rattle.rules.specs.Outcome.{OneOutcome}
 use Rattle.rules.proofs.Refusals.{unless-refused, unless-passed}
-use Rattle.rules.proofs.Checks.{accepted}
-use Rattle.rules.proofs.Prefixes.{total-some}
-use Rattle.lines.specs.Text.{digits, decimal, preceded, joined, unreadableLine, refusedLine, stripLine}
+use Rattle.dictionary.specs.Dictionary.{dictionary}
+use Rattle.standing.specs.Standing.{isStanding}
+use Rattle.lines.specs.Text.{unreadableLine, refusedLine, stripLine}
 use Rattle.counts.specs.Readable.{Readable}
-use Rattle.counts.specs.Reading.{readFrom, readCounts, lineRead}
+use Rattle.counts.specs.Reading.{readCounts, lineRead}
 use Rattle.lines.specs.Puts.{put}
 use Rattle.counts.proofs.Theorems.{nothing-read}
 use Rattle.counts.proofs.Readings.{readable-read}
 use Rattle.printing.specs.declared.printer.Printer.{Printer}
 use Rattle.printing.specs.declared.printer.Printed.{Printed}
-use Rattle.printing.specs.Output.{linesFrom, stripLines, stockLines, linesOf, output}
+use Rattle.printing.specs.Output.{strips, stripLines, nosOf, stockLines, linesOf, output}
 use Rattle.printing.specs.States.{shownAt, nowhere, linesLeft, Shows, stockOf, Sound, shownFirst, printerOf, after, rest, Prints}
-use Rattle.printing.proofs.Listing.{lines-many}
-use Rattle.printing.proofs.Standing.{some-shown, left-are, shows-next, left-next}
+use Rattle.printing.proofs.BookStrips.{book-many, book-strip, book-number}
+use Rattle.printing.proofs.PaperStrips.{paper-own, paper-stands, all-papers}
+use Rattle.printing.proofs.Lines.{some-strip, lines-many, line-at}
+use Rattle.printing.proofs.Showing.{some-shown, left-are, shows-next, left-next}
+use Rattle.printing.proofs.Refused.{none-refused}
 use Rattle.printing.proofs.Answering.{read-inside}
 use Rattle.printing.proofs.printer.first_line.Kinds as first-line
 use Rattle.printing.proofs.printer.first_line.Reads as first-line-reads
@@ -38,95 +42,100 @@ use Rattle.printing.proofs.printer.next_line.Reads as next-line-reads
 
 -- ---- one outcome: two that the contract allows for one input are the same
 
-pub first-one-outcome : OneOutcome 2 first-line.ps first-line.r (λ κs s. s .1 .0 .now) first-line-reads.Post
+pub first-one-outcome : OneOutcome 2 first-line.ps first-line.r (λ κs s. s .1 .1 .0 .now) first-line-reads.Post
 first-one-outcome κs a x y s t h k = (h .0 ∙ sym (k .0), h .1 ∙ sym (k .1))
 
 pub next-one-outcome : OneOutcome 1 next-line.ps next-line.r (λ κs s. s .1 .0 .now) next-line-reads.Post
 next-one-outcome κs a x y s t h k = (h .0 ∙ sym (k .0), h .1 ∙ sym (k .1))
 
--- ---- what the output is
+-- ---- what the output is; computed rows are in `Rows`
 
 -- of a line that can be read, the lines of its stock; of any other, one line
-pub output-read : (counts input : List ℕ) → Readable counts input → output input ≡ stockLines counts
+pub output-read : (papers : Bool) (counts input : List ℕ) → Readable counts input → output papers input ≡ stockLines papers counts
 unfolding output
-output-read counts input r = ap (linesOf stockLines) (readable-read counts input r)
+output-read papers counts input r = ap (linesOf papers) (readable-read counts input r)
 
-pub output-unreadable : (input : List ℕ) → ((counts : List ℕ) → Readable counts input → ⊥) → output input ≡ unreadableLine ∷ []
+pub output-unreadable : (papers : Bool) (input : List ℕ) → ((counts : List ℕ) → Readable counts input → ⊥) → output papers input ≡ unreadableLine ∷ []
 unfolding output
-output-unreadable input n = ap (linesOf stockLines) (nothing-read input n (readCounts input) refl)
+output-unreadable papers input n = ap (linesOf papers) (nothing-read input n (readCounts input) refl)
 
--- of `2 1`, the lines `0 1-1-2`, `1 1-2-1` and `2 2-1-1`
-pub output-2-1 : output (50 ∷ 32 ∷ 49 ∷ 10 ∷ []) ≡
-    (48 ∷ 32 ∷ 49 ∷ 45 ∷ 49 ∷ 45 ∷ 50 ∷ 10 ∷ []) ∷ (49 ∷ 32 ∷ 49 ∷ 45 ∷ 50 ∷ 45 ∷ 49 ∷ 10 ∷ []) ∷ (50 ∷ 32 ∷ 50 ∷ 45 ∷ 49 ∷ 45 ∷ 49 ∷ 10 ∷ []) ∷ []
-unfolding output stockLines stripLines linesFrom readCounts readFrom stripLine decimal digits joined preceded firstOf stockNos sum book bookTo snake turn lay E after-words
-output-2-1 = refl
+-- of a book at most 4,096 lines: line i is strip i, with number i
+pub book-lines : (counts : List ℕ) → length (stripLines false counts) ≡ min 4096 (total counts)
+book-lines counts = lines-many false counts ∙ book-many counts
 
--- of `1 0 1`, the lines `0 1-3` and `1 3-1`
-pub output-1-0-1 : output (49 ∷ 32 ∷ 48 ∷ 32 ∷ 49 ∷ 10 ∷ []) ≡ (48 ∷ 32 ∷ 49 ∷ 45 ∷ 51 ∷ 10 ∷ []) ∷ (49 ∷ 32 ∷ 51 ∷ 45 ∷ 49 ∷ 10 ∷ []) ∷ []
-unfolding output stockLines stripLines linesFrom readCounts readFrom stripLine decimal digits joined preceded firstOf stockNos sum book bookTo snake turn lay E after-words
-output-1-0-1 = refl
+pub book-line : (counts : List ℕ) (i : ℕ) → i < length (stripLines false counts) → getD (stripLines false counts) i [] ≡ stripLine i (getD (book counts) i [])
+book-line counts i h =
+    let l : i < length (strips false counts) = omega (arith, lines-many false counts) in
+    line-at false counts i l ∙ rw (book-number counts i l, book-strip counts i l)
 
--- of `0 70`, the line `refused 3 0`
-pub output-0-70 : output (48 ∷ 32 ∷ 55 ∷ 48 ∷ 10 ∷ []) ≡ (114 ∷ 101 ∷ 102 ∷ 117 ∷ 115 ∷ 101 ∷ 100 ∷ 32 ∷ 51 ∷ 32 ∷ 48 ∷ 10 ∷ []) ∷ []
-unfolding output stockLines readCounts readFrom refusedLine decimal digits joined preceded firstOf stockNos sum
-output-0-70 = refl
+-- of the papers each line is that of a standing strip of the stock, with its number in the dictionary
+pub line-stands : (counts : List ℕ) (i : ℕ) → i < length (stripLines true counts)
+    → (s : List ℕ) × IsStrip counts s × (isStanding s ≡ true) × (getD (stripLines true counts) i [] ≡ stripLine (placeIn (dictionary counts) s) s)
+line-stands counts i h =
+    let l : i < length (strips true counts) = omega (arith, lines-many true counts) in
+    (getD (strips true counts) i [], paper-own counts i l, paper-stands counts i l, line-at true counts i l)
 
--- of `70 0`, the line `refused 2 2`
-pub output-70-0 : output (55 ∷ 48 ∷ 32 ∷ 48 ∷ 10 ∷ []) ≡ (114 ∷ 101 ∷ 102 ∷ 117 ∷ 115 ∷ 101 ∷ 100 ∷ 32 ∷ 50 ∷ 32 ∷ 50 ∷ 10 ∷ []) ∷ []
-unfolding output stockLines readCounts readFrom refusedLine decimal digits joined preceded firstOf stockNos sum
-output-70-0 = refl
+-- and each standing strip with a number below 1,000,000 has its line, where there are fewer than 4,096
+pub standing-has-line : (counts s : List ℕ) → IsStrip counts s → isStanding s ≡ true → placeIn (dictionary counts) s < 1000000 → length (stripLines true counts) < 4096
+    → (i : ℕ) × (i < length (stripLines true counts)) × (getD (stripLines true counts) i [] ≡ stripLine (placeIn (dictionary counts) s) s)
+standing-has-line counts s own stands near few =
+    let w = all-papers counts s own stands near (omega (arith, lines-many true counts)) in
+    (w .0, omega (arith, w .1, lines-many true counts), line-at true counts (w .0) (w .1) ∙ rw (w .2))
 
 -- ---- the lines that are left
 
-first-shows : (counts : List ℕ) → Shows counts (shownFirst (some counts))
-unfolding shownAt
-first-shows counts = elim (ℕ-discrete (firstOf (stockNos counts) .0) 0) [
-  | yes z ↦
-      rw (unless-passed nowhere (shownAt counts 0) (firstOf (stockNos counts)) z)
-      (inr (record { stock = accepted counts z; within = omega (arith, lines-many counts, total-some counts); is = refl }))
-  | no n ↦ inl (unless-refused nowhere (shownAt counts 0) (firstOf (stockNos counts)) n)
-]
+module _ (papers : Bool) (counts : List ℕ) where
+  first-shows : Shows papers counts (shownFirst papers (some counts))
+  unfolding shownAt
+  first-shows = elim (ℕ-discrete (firstOf (nosOf papers counts) .0) 0) [
+    | yes z ↦
+        let k = none-refused papers counts z in
+        rw (unless-passed nowhere (shownAt papers counts 0) (firstOf (nosOf papers counts)) z) (inr (record { stock = k; within = some-strip counts papers k; is = refl }))
+    | no n ↦ inl (unless-refused nowhere (shownAt papers counts 0) (firstOf (nosOf papers counts)) n)
+  ]
 
-pub first-sound : (o : Option (List ℕ)) → Sound (printerOf o)
-unfolding printerOf
-first-sound none = record { inside = omega arith; shows = inl refl }
-first-sound (some counts) = record {
-  inside = read-inside (some counts) (lineRead (some counts)) refl;
-  shows = rw (take-append-seam counts (replicate (128 - length counts) 0)) (first-shows counts);
-}
+  left-first : linesLeft papers counts (shownFirst papers (some counts)) ≡ drop 1 (stockLines papers counts)
+  unfolding stockLines linesLeft shownAt
+  left-first = elim (ℕ-discrete (firstOf (nosOf papers counts) .0) 0) [
+    | yes z ↦
+        let k = none-refused papers counts z in
+        let n = some-shown papers counts k 0 (some-strip counts papers k) (shownAt papers counts 0) refl in
+        rw (
+          unless-passed nowhere (shownAt papers counts 0) (firstOf (nosOf papers counts)) z,
+          unless-passed (refusedLine (firstOf (nosOf papers counts)) ∷ []) (stripLines papers counts) (firstOf (nosOf papers counts)) z,
+        ) (left-are papers counts (shownAt papers counts 0) n)
+    | no n ↦
+        rw (
+          unless-refused nowhere (shownAt papers counts 0) (firstOf (nosOf papers counts)) n,
+          unless-refused (refusedLine (firstOf (nosOf papers counts)) ∷ []) (stripLines papers counts) (firstOf (nosOf papers counts)) n,
+        )
+  ]
+
+module _ (papers : Bool) where
+  pub first-sound : (o : Option (List ℕ)) → Sound (printerOf papers o)
+  unfolding printerOf
+  first-sound none = record { inside = omega arith; shows = inl refl }
+  first-sound (some counts) = record {
+    inside = read-inside (some counts) (lineRead (some counts)) refl;
+    shows = rw (take-append-seam counts (replicate (128 - length counts) 0)) (first-shows papers counts);
+  }
+
+  rest-of : (o : Option (List ℕ)) → rest (printerOf papers o) ≡ drop 1 (linesOf papers o)
+  unfolding printerOf linesLeft
+  rest-of none = refl
+  rest-of (some counts) = rw (take-append-seam counts (replicate (128 - length counts) 0)) (left-first papers counts)
+
+  pub rest-first : (input : List ℕ) → rest (printerOf papers (readCounts input)) ≡ drop 1 (output papers input)
+  unfolding output
+  rest-first input = rest-of (readCounts input)
 
 pub next-sound : (p : Printer) → Sound p → Sound (after p)
 unfolding after
-next-sound p s = record { inside = s .inside; shows = shows-next (stockOf (p .read)) (p .shown) (s .shows) }
-
-left-first : (counts : List ℕ) → linesLeft counts (shownFirst (some counts)) ≡ drop 1 (stockLines counts)
-unfolding stockLines linesLeft shownAt
-left-first counts = elim (ℕ-discrete (firstOf (stockNos counts) .0) 0) [
-  | yes z ↦
-      let n = some-shown counts (accepted counts z) 0 (omega (arith, total-some counts)) (shownAt counts 0) refl in
-      rw (
-        unless-passed nowhere (shownAt counts 0) (firstOf (stockNos counts)) z,
-        unless-passed (refusedLine (firstOf (stockNos counts)) ∷ []) (stripLines counts) (firstOf (stockNos counts)) z,
-      ) (left-are counts (shownAt counts 0) n)
-  | no n ↦
-      rw (
-        unless-refused nowhere (shownAt counts 0) (firstOf (stockNos counts)) n,
-        unless-refused (refusedLine (firstOf (stockNos counts)) ∷ []) (stripLines counts) (firstOf (stockNos counts)) n,
-      )
-]
-
-rest-of : (o : Option (List ℕ)) → rest (printerOf o) ≡ drop 1 (linesOf stockLines o)
-unfolding printerOf linesLeft
-rest-of none = refl
-rest-of (some counts) = rw (take-append-seam counts (replicate (128 - length counts) 0)) (left-first counts)
-
-pub rest-first : (input : List ℕ) → rest (printerOf (readCounts input)) ≡ drop 1 (output input)
-unfolding output
-rest-first input = rest-of (readCounts input)
+next-sound p s = record { inside = s .inside; shows = shows-next (p .papers) (stockOf (p .read)) (p .shown) (s .shows) }
 
 pub rest-next : (p : Printer) → Sound p → rest (after p) ≡ drop 1 (rest p)
 unfolding after
-rest-next p s = left-next (stockOf (p .read)) (p .shown) (s .shows)
+rest-next p s = left-next (p .papers) (stockOf (p .read)) (p .shown) (s .shows)
 
 -- ---- the calls: the first of the lines that are to come stands in the lent line, and the others are left
 
@@ -144,17 +153,18 @@ gives lines line written r p h s l =
     let n : length written ≡ length t + length (drop (0 + length t) line) = ap length (h .1) ∙ length-append t (drop (0 + length t) line) in
     rw (h .0) (record { bytes = refl; inside = omega (arith, n); text = h .1; sound = s; left = l })
 
-pub first-gives : (input line written : List ℕ) (r : Printed)
-    → Prints (output input) (printerOf (readCounts input)) line written r → Gives (output input) line written r
-first-gives input line written r h = gives (output input) line written r (printerOf (readCounts input)) h (first-sound (readCounts input)) (rest-first input)
+pub first-gives : (papers : Bool) (input line written : List ℕ) (r : Printed)
+    → Prints (output papers input) (printerOf papers (readCounts input)) line written r → Gives (output papers input) line written r
+first-gives papers input line written r h =
+    gives (output papers input) line written r (printerOf papers (readCounts input)) h (first-sound papers (readCounts input)) (rest-first papers input)
 
 pub next-gives : (p : Printer) (line written : List ℕ) (r : Printed) → Sound p
     → Prints (rest p) (after p) line written r → Gives (rest p) line written r
 next-gives p line written r s h = gives (rest p) line written r (after p) h (next-sound p s) (rest-next p s)
 
 pub first-right : (κs : Lfts 2) (a : Dens κs first-line.ps) (r : Printed) (s : AtExit (endedOf 2 first-line.ps first-line.r) κs) → first-line-reads.Post κs a r s
-    → Gives (output (a .0 .now)) (a .1 .0 .now) (s .1 .0 .now) r
-first-right κs a r s h = first-gives (a .0 .now) _ _ r h
+    → Gives (output (a .1 .0) (a .0 .now)) (a .1 .1 .0 .now) (s .1 .1 .0 .now) r
+first-right κs a r s h = first-gives (a .1 .0) (a .0 .now) _ _ r h
 
 pub next-right : (κs : Lfts 1) (a : Dens κs next-line.ps) (r : Printed) (s : AtExit (endedOf 1 next-line.ps next-line.r) κs) → Sound (a .0) → next-line-reads.Post κs a r s
     → Gives (rest (a .0)) (a .1 .0 .now) (s .1 .0 .now) r

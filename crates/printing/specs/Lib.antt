@@ -1,3 +1,3 @@
--- What the program prints for an input (to be believed), and the states of a printer.
+-- What the programs print for an input (to be believed), and the states of a printer.
 pub mod Output
 pub mod States

@@ -2,15 +2,16 @@
 -- `rest-next`), so nothing here is to be believed.
 use Prim.Native.Nat.{ℕ, _+_, _-_, _≤_, _<_}
 use mathlib.Core.Path.{_≡_}
-use mathlib.Core.Bool.{cond}
+use mathlib.Core.Bool.{Bool, cond}
 use mathlib.Core.Logic.{_⊎_}
 use mathlib.Core.Option.{Option, none, some}
 use mathlib.Core.List.{List, [], _++_}
 use lib.Dec.{eqb, ltb}
 use lib.ListN.{length, getD, take, drop, replicate}
 use Rattle.rules.specs.Stock.{IsStock}
-use Rattle.rules.specs.Book.{book}
-use Rattle.rules.specs.Refusals.{firstOf, unless, stockNos}
+use Rattle.rules.specs.Book.{placeIn}
+use Rattle.rules.specs.Refusals.{firstOf, unless, pick}
+use Rattle.walker.specs.declared.Walker.{Walker}
 use Rattle.walker.specs.Walkers.{walkerOf, allForward}
 use Rattle.lines.specs.Text.{stripLine}
 use Rattle.lines.specs.Puts.{put}
@@ -20,43 +21,49 @@ use Rattle.printing.specs.declared.shown.Shown.{Shown}
 use Rattle.printing.specs.declared.printer.Begun.{Begun}
 use Rattle.printing.specs.declared.printer.Printer.{Printer}
 use Rattle.printing.specs.declared.printer.Printed.{Printed}
-use Rattle.printing.specs.Output.{stripLines}
+use Rattle.printing.specs.Output.{listOf, strips, stripLines, nosOf}
 
 -- ---- the strip that is shown
 
--- strip i of a book
-unfoldable pub shownAt : List ℕ → ℕ → Shown
-shownAt counts i = let s = getD (book counts) i [] in record { strip = s ++ replicate (64 - length s) 0; blocks = length s; number = i; walker = walkerOf counts s }
+-- the walker beside strip i of those that are printed. No walker leads through the papers, so there it stays that of the first
+unfoldable pub walkerAt : Bool → List ℕ → ℕ → Walker
+walkerAt papers counts i = walkerOf counts (getD (strips papers counts) (pick papers 0 i) [])
+
+-- strip i
+unfoldable pub shownAt : Bool → List ℕ → ℕ → Shown
+shownAt papers counts i =
+    let s = getD (strips papers counts) i [] in
+    record { strip = s ++ replicate (64 - length s) 0; blocks = length s; number = placeIn (listOf papers counts) s; index = i; walker = walkerAt papers counts i }
 
 -- none
 abbrev pub nowhere : Shown
-nowhere = record { strip = replicate 64 0; blocks = 0; number = 0; walker = allForward }
+nowhere = record { strip = replicate 64 0; blocks = 0; number = 0; index = 0; walker = allForward }
 
--- strip i, where it is among those that are printed
-unfoldable pub shownIf : List ℕ → ℕ → Shown
-shownIf counts i = cond (ltb i (length (stripLines counts))) (shownAt counts i) nowhere
+-- strip i, where there is one
+unfoldable pub shownIf : Bool → List ℕ → ℕ → Shown
+shownIf papers counts i = cond (ltb i (length (strips papers counts))) (shownAt papers counts i) nowhere
 
 -- the strip after the one that is shown
-unfoldable pub nextShown : List ℕ → Shown → Shown
-nextShown counts sh = cond (eqb (sh .blocks) 0) nowhere (shownIf counts (sh .number + 1))
+unfoldable pub nextShown : Bool → List ℕ → Shown → Shown
+nextShown papers counts sh = cond (eqb (sh .blocks) 0) nowhere (shownIf papers counts (sh .index + 1))
 
 -- its line
 unfoldable pub shownText : Shown → List ℕ
 shownText sh = cond (eqb (sh .blocks) 0) [] (stripLine (sh .number) (take (sh .blocks) (sh .strip)))
 
 -- the lines that are left after the strip that is shown
-unfoldable pub linesLeft : List ℕ → Shown → List (List ℕ)
-linesLeft counts sh = cond (eqb (sh .blocks) 0) [] (drop (sh .number + 1) (stripLines counts))
+unfoldable pub linesLeft : Bool → List ℕ → Shown → List (List ℕ)
+linesLeft papers counts sh = cond (eqb (sh .blocks) 0) [] (drop (sh .index + 1) (stripLines papers counts))
 
 -- a strip that is printed, of an accepted stock
-pub record Stands (counts : List ℕ) (sh : Shown) : Type 0 where
+pub record Held (papers : Bool) (counts : List ℕ) (sh : Shown) : Type 0 where
   pub stock : IsStock counts
-  pub within : sh .number < length (stripLines counts)
-  pub is : sh ≡ shownAt counts (sh .number)
+  pub within : sh .index < length (strips papers counts)
+  pub is : sh ≡ shownAt papers counts (sh .index)
 
 -- such a strip, or none
-abbrev pub Shows : List ℕ → Shown → Type 0
-Shows counts sh = (sh ≡ nowhere) ⊎ Stands counts sh
+abbrev pub Shows : Bool → List ℕ → Shown → Type 0
+Shows papers counts sh = (sh ≡ nowhere) ⊎ Held papers counts sh
 
 -- what a line needs of the strip that is shown: it has room
 pub record Fits (sh : Shown) : Type 0 where
@@ -73,24 +80,24 @@ stockOf r = take (r .kinds) (r .counts)
 -- a printer on its way
 pub record Sound (p : Printer) : Type 0 where
   pub inside : p .read .kinds ≤ length (p .read .counts)
-  pub shows : Shows (stockOf (p .read)) (p .shown)
+  pub shows : Shows (p .papers) (stockOf (p .read)) (p .shown)
 
 -- the strip that is shown first
-abbrev pub shownFirst : Option (List ℕ) → Shown
-shownFirst none = nowhere
-shownFirst (some counts) = unless (firstOf (stockNos counts)) nowhere (shownAt counts 0)
+abbrev pub shownFirst : Bool → Option (List ℕ) → Shown
+shownFirst papers none = nowhere
+shownFirst papers (some counts) = unless (firstOf (nosOf papers counts)) nowhere (shownAt papers counts 0)
 
 -- the printer of what is read of an input
-unfoldable pub printerOf : Option (List ℕ) → Printer
-printerOf o = record { read = lineRead o; shown = shownFirst o }
+unfoldable pub printerOf : Bool → Option (List ℕ) → Printer
+printerOf papers o = record { read = lineRead o; papers = papers; shown = shownFirst papers o }
 
 -- the printer after one more line
 unfoldable pub after : Printer → Printer
-after p = record { read = p .read; shown = nextShown (stockOf (p .read)) (p .shown) }
+after p = record { read = p .read; papers = p .papers; shown = nextShown (p .papers) (stockOf (p .read)) (p .shown) }
 
 -- the lines that a printer has left
 abbrev pub rest : Printer → List (List ℕ)
-rest p = linesLeft (stockOf (p .read)) (p .shown)
+rest p = linesLeft (p .papers) (stockOf (p .read)) (p .shown)
 
 -- ---- the answers
 

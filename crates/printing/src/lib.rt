@@ -1,3 +1,3 @@
-// Printing a book: the lines of the program's output, one after the other.
+// Printing the book of a stock, or its endless papers: the lines of the programs' output, one after the other.
 pub mod printer;
 mod shown;

@@ -13,7 +13,7 @@ use Rattle.printing.proofs.printer.first_line.Tie as tie
 returns : tie.Need-returns
 returns c =
     let r = c .before .before .before .before .before .before .before in
-    printed-unreadable _ _ _ _ (r .read-line .ensures) (not-true _ (c .before .before .before .before .before .if1 .taken)) _ _ (c .show-none .ensures)
+    printed-unreadable _ _ _ _ _ (r .read-line .ensures) (not-true _ (c .before .before .before .before .before .if1 .taken)) _ _ (c .show-none .ensures)
     (c .before .before .before .put-unreadable .ensures)
 
 inside : (b : tie.After-read-line) → b .read-line .result .kinds ≤ length (b .read-line .result .counts)
@@ -22,7 +22,7 @@ inside b = read-inside (readCounts (b .before .before .before .args .input .now)
 returns-2 : tie.Need-returns-2
 returns-2 c =
     let r = c .before .before .before .before .before .before .before .before .before in
-    printed-stock _ _ _ _ (r .read-line .ensures) (not-false _ (c .before .before .before .before .before .before .before .if1 .left)) _ (c .before .before .before .begin .ensures)
+    printed-stock _ _ _ _ _ (r .read-line .ensures) (not-false _ (c .before .before .before .before .before .before .before .if1 .left)) _ (c .before .before .before .begin .ensures)
 
 pub first-line-spec : {M : Type 1} → statement M
 first-line-spec =

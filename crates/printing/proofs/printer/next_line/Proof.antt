@@ -2,7 +2,7 @@
 use mathlib.Core.Path.{sym}
 use lib.Seq.{length-take-le}
 use borrow.Author.Needs.{needs}
-use Rattle.printing.proofs.Standing.{fits-next}
+use Rattle.printing.proofs.Showing.{fits-next}
 use Rattle.printing.proofs.Answering.{printed-next}
 use Rattle.printing.proofs.printer.next_line.Statement.{statement}
 use Rattle.printing.proofs.printer.next_line.Tie as tie
@@ -10,7 +10,7 @@ use Rattle.printing.proofs.printer.next_line.Tie as tie
 put-shown-requires : tie.Need-put-shown-requires
 put-shown-requires c κs =
     let s = c .before .before .before .before .before .before in
-    (rw (c .before .show-next .ensures) (fits-next _ _ (s .pre .0 .shows)), s .pre .1)
+    (rw (c .before .show-next .ensures) (fits-next _ _ _ (s .pre .0 .shows)), s .pre .1)
 
 pub next-line-spec : {M : Type 1} → statement M
 next-line-spec =

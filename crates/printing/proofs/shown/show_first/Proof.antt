@@ -6,7 +6,7 @@ use native.Mathlib.Omega.{arith}
 use lib.ListN.{length, drop, replicate, length-append}
 use borrow.Author.Needs.{needs}
 use Rattle.rules.specs.Stock.{sum}
-use Rattle.printing.proofs.Moving.{room, length-0, part-0, first-shown}
+use Rattle.printing.proofs.First.{room, length-0, part-0, first-shown}
 use Rattle.printing.proofs.shown.show_first.Statement.{statement}
 use Rattle.printing.proofs.shown.show_first.Tie as tie
 
