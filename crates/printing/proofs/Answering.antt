@@ -20,10 +20,10 @@ use Rattle.lines.specs.Puts.{put, Puts}
 use Rattle.printing.specs.declared.shown.Shown.{Shown}
 use Rattle.printing.specs.declared.printer.Begun.{Begun}
 use Rattle.printing.specs.declared.printer.Printer.{Printer}
-use Rattle.printing.specs.Output.{stripLines, nosOf, stockLines, linesOf, output}
+use Rattle.printed.specs.Output.{stripLines, nosOf, stockLines, linesOf, output}
 use Rattle.printing.specs.States.{shownAt, nowhere, nextShown, shownText, stockOf, Sound, shownFirst, printerOf, after, rest, asBegun, Begins, Prints}
 use Rattle.printing.proofs.Refused.{none-refused}
-use Rattle.printing.proofs.Lines.{some-strip, line-at}
+use Rattle.printed.proofs.Lines.{some-strip, line-at}
 use Rattle.printing.proofs.Showing.{text-at, text-none, text-some, text-next}
 
 -- ---- the line of the strip that is shown

@@ -19,9 +19,9 @@ use Rattle.walker.specs.Walkers.{walkerOf, allForward}
 use Rattle.walker.specs.declared.open.Opened.{Opened}
 use Rattle.walker.specs.Answers.{openAnswer}
 use Rattle.printing.specs.declared.shown.Shown.{Shown}
-use Rattle.printing.specs.Output.{listOf}
+use Rattle.printed.specs.Output.{listOf}
 use Rattle.printing.specs.States.{walkerAt, shownAt}
-use Rattle.printing.proofs.Lines.{first-strip, first-number}
+use Rattle.printed.proofs.Lines.{first-strip, first-number}
 use Rattle.printing.proofs.Showing.{shown-is}
 
 drop-zeros : (n m : ℕ) → _≡_ {A = List ℕ} (drop n (replicate m 0)) (replicate (m - n) 0)

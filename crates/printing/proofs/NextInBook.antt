@@ -13,9 +13,9 @@ use Rattle.walking.specs.Checked.{Checked, stepAnswer, stepStrip}
 use Rattle.walking.proofs.Along.{none-left, some-left}
 use Rattle.walking.proofs.Stepped.{Step, step-refused, step-made}
 use Rattle.printing.specs.declared.shown.Shown.{Shown}
-use Rattle.printing.specs.Output.{strips}
+use Rattle.printed.specs.Output.{strips}
 use Rattle.printing.specs.States.{walkerAt, nowhere, nextShown, Held}
-use Rattle.printing.proofs.BookStrips.{book-many, book-strip, book-number, book-own}
+use Rattle.printed.proofs.BookStrips.{book-many, book-strip, book-number, book-own}
 use Rattle.printing.proofs.Showing.{number-is, walker-is, some-shown, strip-is, next-last, shown-next}
 
 module _ (counts : List ℕ) (sh : Shown) (st : Held false counts sh) where

@@ -16,9 +16,9 @@ use Rattle.standing.specs.Standing.{isStanding}
 use Rattle.endless.specs.declared.next_paper.Stepped.{Stepped}
 use Rattle.endless.specs.Answers.{paperOutcome, paperSteps, nextPaper, nextPaperAnswer, nextPaperAfter}
 use Rattle.printing.specs.declared.shown.Shown.{Shown}
-use Rattle.printing.specs.Output.{strips}
+use Rattle.printed.specs.Output.{strips}
 use Rattle.printing.specs.States.{walkerAt, nowhere, nextShown, Held}
-use Rattle.printing.proofs.PaperStrips.{Next, paper-near, paper-own, last-paper, next-paper}
+use Rattle.printed.proofs.PaperStrips.{Next, paper-near, paper-own, last-paper, next-paper}
 use Rattle.printing.proofs.Showing.{number-is, walker-is, some-shown, strip-is, next-last, shown-next}
 
 module _ (counts : List ℕ) (sh : Shown) (st : Held true counts sh) where

@@ -12,7 +12,7 @@ use Rattle.rules.specs.Refusals.{when, firstOf, manyNo, stockNos}
 use Rattle.rules.proofs.Refusals.{refused-first, passed-first, passed-both}
 use Rattle.rules.proofs.Checks.{stock-empty, stock-over, stock-zero, stock-long, stock-fine, accepted}
 use Rattle.counting.specs.Answers.{countNos}
-use Rattle.printing.specs.Output.{nosOf}
+use Rattle.printed.specs.Output.{nosOf}
 
 -- the place of a refused stock is a kind, or 0
 stock-place : (counts : List ℕ) → firstOf (stockNos counts) .1 ≤ 16

@@ -18,9 +18,9 @@ use Rattle.walker.specs.declared.Walker.{Walker}
 use Rattle.lines.specs.Text.{stripLine}
 use Rattle.lines.proofs.Lengths.{strip-length}
 use Rattle.printing.specs.declared.shown.Shown.{Shown}
-use Rattle.printing.specs.Output.{listOf, strips, stripLines}
+use Rattle.printed.specs.Output.{listOf, strips, stripLines}
 use Rattle.printing.specs.States.{walkerAt, shownAt, nowhere, shownIf, nextShown, shownText, linesLeft, Held, Shows, Fits}
-use Rattle.printing.proofs.Lines.{own, near, lines-many, line-at}
+use Rattle.printed.proofs.Lines.{own, near, lines-many, line-at}
 
 -- a strip as it is held
 pub shown-is : (papers : Bool) (counts t zs : List ℕ) (n number i : ℕ) (w : Walker)

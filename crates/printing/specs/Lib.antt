@@ -1,3 +1,2 @@
--- What the programs print for an input (to be believed), and the states of a printer.
-pub mod Output
+-- What the printer's functions promise. Nothing here is to be believed: the lines that are printed stand in `printed`.
 pub mod States

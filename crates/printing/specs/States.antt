@@ -21,7 +21,7 @@ use Rattle.printing.specs.declared.shown.Shown.{Shown}
 use Rattle.printing.specs.declared.printer.Begun.{Begun}
 use Rattle.printing.specs.declared.printer.Printer.{Printer}
 use Rattle.printing.specs.declared.printer.Printed.{Printed}
-use Rattle.printing.specs.Output.{listOf, strips, stripLines, nosOf}
+use Rattle.printed.specs.Output.{listOf, strips, stripLines, nosOf}
 
 -- ---- the strip that is shown
 

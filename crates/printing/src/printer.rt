@@ -20,7 +20,7 @@ ghost use Rattle.rules.specs.Refusals.{firstOf};
 ghost use Rattle.stock.specs.Refused.{refusal};
 ghost use Rattle.counts.specs.Reading.{readCounts};
 ghost use Rattle.lines.specs.Puts.{Puts};
-ghost use Rattle.printing.specs.Output.{nosOf, stockLines, output};
+ghost use Rattle.printed.specs.Output.{nosOf, stockLines, output};
 ghost use Rattle.printing.specs.States.{shownText, Fits, Sound, shownFirst, printerOf, after, rest, Begins, Prints};
 
 // What was read, whether it is the papers that are printed, and the strip that is shown.

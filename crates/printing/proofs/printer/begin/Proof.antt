@@ -6,9 +6,9 @@ use Rattle.rules.specs.Stock.{IsStock}
 use Rattle.stock.specs.declared.Refusal.{Refusal}
 use Rattle.stock.proofs.Tested.{passed}
 use Rattle.lines.proofs.Lengths.{refused-length}
-use Rattle.printing.specs.Output.{nosOf}
+use Rattle.printed.specs.Output.{nosOf}
 use Rattle.printing.proofs.Refused.{refused-place, none-refused}
-use Rattle.printing.proofs.Lines.{some-strip}
+use Rattle.printed.proofs.Lines.{some-strip}
 use Rattle.printing.proofs.Showing.{fits-at}
 use Rattle.printing.proofs.Answering.{begun-refused, begun-shown}
 use Rattle.printing.proofs.printer.begin.Statement.{statement}

@@ -3,7 +3,7 @@ use mathlib.Core.Path.{sym, _∙_}
 use native.Mathlib.Omega.{arith}
 use borrow.Author.Needs.{needs}
 use Rattle.printing.specs.States.{Held}
-use Rattle.printing.proofs.Lines.{few-strips}
+use Rattle.printed.proofs.Lines.{few-strips}
 use Rattle.printing.proofs.Showing.{held, next-none, next-last}
 use Rattle.printing.proofs.shown.show_next.Statement.{statement}
 use Rattle.printing.proofs.shown.show_next.Tie as tie

@@ -13,9 +13,9 @@ use Rattle.rules.proofs.Places.{book-place}
 use Rattle.dictionary.proofs.Theorems.{dictionary-place}
 use Rattle.dictionary.proofs.FirstEntry.{first-entry}
 use Rattle.lines.specs.Text.{stripLine}
-use Rattle.printing.specs.Output.{listOf, strips, lineOf, stripLines}
-use Rattle.printing.proofs.BookStrips.{book-many, book-strip, book-number, book-own}
-use Rattle.printing.proofs.PaperStrips.{few-papers, first-paper, paper-near, paper-own}
+use Rattle.printed.specs.Output.{listOf, strips, lineOf, stripLines}
+use Rattle.printed.proofs.BookStrips.{book-many, book-strip, book-number, book-own}
+use Rattle.printed.proofs.PaperStrips.{few-papers, first-paper, paper-near, paper-own}
 
 -- ---- by the one or the other
 

@@ -15,7 +15,7 @@ use Rattle.papers.specs.Papers.{turned, upTo, turns}
 use Rattle.standing.specs.Standing.{smallestOf, standing, isStanding}
 use Rattle.lines.specs.Text.{digits, decimal, preceded, joined, refusedLine, stripLine}
 use Rattle.counts.specs.Reading.{readFrom, readCounts}
-use Rattle.printing.specs.Output.{strips, lineOf, stripLines, stockLines, output}
+use Rattle.printed.specs.Output.{strips, lineOf, stripLines, stockLines, output}
 
 -- ---- of the book
 

@@ -11,8 +11,8 @@ use Rattle.rules.specs.Book.{placeIn}
 use Rattle.dictionary.specs.Dictionary.{dictionary}
 use Rattle.searching.specs.Searching.{later, outcome, stepsMade, foundOr}
 use Rattle.standing.specs.Standing.{isStanding}
-use Rattle.printing.specs.Output.{strips}
-use Rattle.printing.proofs.Entries.{few-printed, first-printed, all-printed, entry, found-none, found-next}
+use Rattle.printed.specs.Output.{strips}
+use Rattle.printed.proofs.Entries.{few-printed, first-printed, all-printed, entry, found-none, found-next}
 
 some-lines : 0 < 4096
 some-lines = omega arith

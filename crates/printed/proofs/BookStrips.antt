@@ -9,7 +9,7 @@ use lib.Seq.{getD-take}
 use Rattle.rules.specs.Stock.{total, IsStrip}
 use Rattle.rules.specs.Book.{book, placeIn}
 use Rattle.rules.proofs.Places.{book-size, book-only, book-place}
-use Rattle.printing.specs.Output.{strips}
+use Rattle.printed.specs.Output.{strips}
 
 module _ (counts : List ℕ) where
   pub book-many : length (strips false counts) ≡ min 4096 (total counts)

@@ -1,0 +1,2 @@
+-- TO BE BELIEVED: what the programs print for an input.
+pub mod Output
