@@ -17,14 +17,15 @@ use Rattle.counts.specs.declared.LineRead.{LineRead}
 use Rattle.lines.specs.Text.{unreadableLine, refusedLine, stripLine}
 use Rattle.counts.specs.Reading.{readCounts, lineRead}
 use Rattle.lines.specs.Puts.{put, Puts}
-use Rattle.printing.specs.declared.shown.Shown.{Shown}
+use Rattle.showing.specs.declared.Shown.{Shown}
 use Rattle.printing.specs.declared.printer.Begun.{Begun}
 use Rattle.printing.specs.declared.printer.Printer.{Printer}
 use Rattle.printed.specs.Output.{stripLines, nosOf, stockLines, linesOf, output}
-use Rattle.printing.specs.States.{shownAt, nowhere, nextShown, shownText, stockOf, Sound, shownFirst, printerOf, after, rest, asBegun, Begins, Prints}
+use Rattle.showing.specs.States.{shownAt, nowhere, nextShown, shownText}
+use Rattle.printing.specs.States.{stockOf, Sound, shownFirst, printerOf, after, rest, asBegun, Begins, Prints}
 use Rattle.printing.proofs.Refused.{none-refused}
 use Rattle.printed.proofs.Lines.{some-strip, line-at}
-use Rattle.printing.proofs.Showing.{text-at, text-none, text-some, text-next}
+use Rattle.showing.proofs.Showing.{text-at, text-none, text-some, text-next}
 
 -- ---- the line of the strip that is shown
 

@@ -28,11 +28,12 @@ use Rattle.counts.proofs.Readings.{readable-read}
 use Rattle.printing.specs.declared.printer.Printer.{Printer}
 use Rattle.printing.specs.declared.printer.Printed.{Printed}
 use Rattle.printed.specs.Output.{strips, stripLines, nosOf, stockLines, linesOf, output}
-use Rattle.printing.specs.States.{shownAt, nowhere, linesLeft, Shows, stockOf, Sound, shownFirst, printerOf, after, rest, Prints}
+use Rattle.showing.specs.States.{shownAt, nowhere, linesLeft, Shows}
+use Rattle.printing.specs.States.{stockOf, Sound, shownFirst, printerOf, after, rest, Prints}
 use Rattle.printed.proofs.BookStrips.{book-many, book-strip, book-number}
 use Rattle.printed.proofs.PaperStrips.{paper-own, paper-stands, all-papers}
 use Rattle.printed.proofs.Lines.{some-strip, lines-many, line-at}
-use Rattle.printing.proofs.Showing.{some-shown, left-are, shows-next, left-next}
+use Rattle.showing.proofs.Showing.{some-shown, left-are, shows-next, left-next}
 use Rattle.printing.proofs.Refused.{none-refused}
 use Rattle.printing.proofs.Answering.{read-inside}
 use Rattle.printing.proofs.printer.first_line.Kinds as first-line

@@ -1,15 +1,15 @@
 // The printer: a state by value, with a step that gives the bytes of the next line. The flag `papers` says whether the papers of a stock are printed, or its
 // book.
-use crate::shown::Shown;
-use crate::shown::show_first;
-use crate::shown::show_next;
-use crate::shown::show_none;
 use counting::count::count;
 use counts::LineRead;
 use counts::read_line;
 use lines::writing::put_refusal;
 use lines::writing::put_strip;
 use lines::writing::put_unreadable;
+use showing::Shown;
+use showing::show_first;
+use showing::show_next;
+use showing::show_none;
 use stock::Refusal;
 use stock::check_stock;
 ghost use Prim.Native.Nat.{_≤_};
@@ -21,7 +21,8 @@ ghost use Rattle.stock.specs.Refused.{refusal};
 ghost use Rattle.counts.specs.Reading.{readCounts};
 ghost use Rattle.lines.specs.Puts.{Puts};
 ghost use Rattle.printed.specs.Output.{nosOf, stockLines, output};
-ghost use Rattle.printing.specs.States.{shownText, Fits, Sound, shownFirst, printerOf, after, rest, Begins, Prints};
+ghost use Rattle.showing.specs.States.{shownText, Fits};
+ghost use Rattle.printing.specs.States.{Sound, shownFirst, printerOf, after, rest, Begins, Prints};
 
 // What was read, whether it is the papers that are printed, and the strip that is shown.
 pub struct Printer {

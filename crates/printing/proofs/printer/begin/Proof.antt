@@ -9,7 +9,7 @@ use Rattle.lines.proofs.Lengths.{refused-length}
 use Rattle.printed.specs.Output.{nosOf}
 use Rattle.printing.proofs.Refused.{refused-place, none-refused}
 use Rattle.printed.proofs.Lines.{some-strip}
-use Rattle.printing.proofs.Showing.{fits-at}
+use Rattle.showing.proofs.Showing.{fits-at}
 use Rattle.printing.proofs.Answering.{begun-refused, begun-shown}
 use Rattle.printing.proofs.printer.begin.Statement.{statement}
 use Rattle.printing.proofs.printer.begin.Tie as tie

@@ -2,7 +2,7 @@
 use mathlib.Core.Path.{sym}
 use lib.Seq.{length-take-le}
 use borrow.Author.Needs.{needs}
-use Rattle.printing.proofs.Showing.{fits-next}
+use Rattle.showing.proofs.Showing.{fits-next}
 use Rattle.printing.proofs.Answering.{printed-next}
 use Rattle.printing.proofs.printer.next_line.Statement.{statement}
 use Rattle.printing.proofs.printer.next_line.Tie as tie

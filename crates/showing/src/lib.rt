@@ -1,4 +1,4 @@
-// The strip that is shown: strip after strip of a stock's book, or standing strip after standing strip of its dictionary.
+// Showing: the strip that a printer shows, strip after strip of a stock's book, or standing strip after standing strip of its dictionary.
 use counting::first::first;
 use endless::next_paper::next_paper;
 use stock::blocks;
@@ -9,7 +9,7 @@ ghost use Prim.Native.Nat.{_<_};
 ghost use mathlib.Core.Path.{_≡_};
 ghost use mathlib.Core.Bool.{Bool, true, false};
 ghost use Rattle.rules.specs.Stock.{IsStock};
-ghost use Rattle.printing.specs.States.{shownAt, nowhere, nextShown, Held, Shows};
+ghost use Rattle.showing.specs.States.{shownAt, nowhere, nextShown, Held, Shows};
 
 // A strip, the number of its blocks, its number in the book or in the dictionary, its index among those that are printed, and its walker. No blocks: no
 // strip is shown. The papers need no walker: theirs stays that of the first strip.

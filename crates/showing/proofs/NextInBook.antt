@@ -12,11 +12,11 @@ use Rattle.walking.specs.Answers.{along, leftAlong}
 use Rattle.walking.specs.Checked.{Checked, stepAnswer, stepStrip}
 use Rattle.walking.proofs.Along.{none-left, some-left}
 use Rattle.walking.proofs.Stepped.{Step, step-refused, step-made}
-use Rattle.printing.specs.declared.shown.Shown.{Shown}
+use Rattle.showing.specs.declared.Shown.{Shown}
 use Rattle.printed.specs.Output.{strips}
-use Rattle.printing.specs.States.{walkerAt, nowhere, nextShown, Held}
+use Rattle.showing.specs.States.{walkerAt, nowhere, nextShown, Held}
 use Rattle.printed.proofs.BookStrips.{book-many, book-strip, book-number, book-own}
-use Rattle.printing.proofs.Showing.{number-is, walker-is, some-shown, strip-is, next-last, shown-next}
+use Rattle.showing.proofs.Showing.{number-is, walker-is, some-shown, strip-is, next-last, shown-next}
 
 module _ (counts : List ℕ) (sh : Shown) (st : Held false counts sh) where
   abbrev t : List ℕ

@@ -17,9 +17,9 @@ use Rattle.rules.proofs.Strips.{strip-sum}
 use Rattle.walker.specs.declared.Walker.{Walker}
 use Rattle.lines.specs.Text.{stripLine}
 use Rattle.lines.proofs.Lengths.{strip-length}
-use Rattle.printing.specs.declared.shown.Shown.{Shown}
+use Rattle.showing.specs.declared.Shown.{Shown}
 use Rattle.printed.specs.Output.{listOf, strips, stripLines}
-use Rattle.printing.specs.States.{walkerAt, shownAt, nowhere, shownIf, nextShown, shownText, linesLeft, Held, Shows, Fits}
+use Rattle.showing.specs.States.{walkerAt, shownAt, nowhere, shownIf, nextShown, shownText, linesLeft, Held, Shows, Fits}
 use Rattle.printed.proofs.Lines.{own, near, lines-many, line-at}
 
 -- a strip as it is held

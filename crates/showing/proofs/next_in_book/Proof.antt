@@ -1,14 +1,14 @@
--- `printing::shown::next_in_book` meets its contract.
+-- `showing::next_in_book` meets its contract.
 use mathlib.Core.Path.{sym, _∙_}
 use mathlib.Core.Bool.{false}
 use mathlib.Core.Logic.{inr}
 use native.Mathlib.Omega.{arith}
 use lib.Seq.{length-take-le}
 use borrow.Author.Needs.{needs}
-use Rattle.printing.proofs.Showing.{inside-shown}
-use Rattle.printing.proofs.NextInBook.{ready, counted, no-step, stepped}
-use Rattle.printing.proofs.shown.next_in_book.Statement.{statement}
-use Rattle.printing.proofs.shown.next_in_book.Tie as tie
+use Rattle.showing.proofs.Showing.{inside-shown}
+use Rattle.showing.proofs.NextInBook.{ready, counted, no-step, stepped}
+use Rattle.showing.proofs.next_in_book.Statement.{statement}
+use Rattle.showing.proofs.next_in_book.Tie as tie
 
 returns : tie.Need-returns
 returns c =

@@ -15,11 +15,11 @@ use Rattle.searching.proofs.Theorems.{few-steps}
 use Rattle.standing.specs.Standing.{isStanding}
 use Rattle.endless.specs.declared.next_paper.Stepped.{Stepped}
 use Rattle.endless.specs.Answers.{paperOutcome, paperSteps, nextPaper, nextPaperAnswer, nextPaperAfter}
-use Rattle.printing.specs.declared.shown.Shown.{Shown}
+use Rattle.showing.specs.declared.Shown.{Shown}
 use Rattle.printed.specs.Output.{strips}
-use Rattle.printing.specs.States.{walkerAt, nowhere, nextShown, Held}
+use Rattle.showing.specs.States.{walkerAt, nowhere, nextShown, Held}
 use Rattle.printed.proofs.PaperStrips.{Next, paper-near, paper-own, last-paper, next-paper}
-use Rattle.printing.proofs.Showing.{number-is, walker-is, some-shown, strip-is, next-last, shown-next}
+use Rattle.showing.proofs.Showing.{number-is, walker-is, some-shown, strip-is, next-last, shown-next}
 
 module _ (counts : List ℕ) (sh : Shown) (st : Held true counts sh) where
   abbrev t : List ℕ

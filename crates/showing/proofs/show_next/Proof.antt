@@ -1,12 +1,12 @@
--- `printing::shown::show_next` meets its contract.
+-- `showing::show_next` meets its contract.
 use mathlib.Core.Path.{sym, _∙_}
 use native.Mathlib.Omega.{arith}
 use borrow.Author.Needs.{needs}
-use Rattle.printing.specs.States.{Held}
+use Rattle.showing.specs.States.{Held}
 use Rattle.printed.proofs.Lines.{few-strips}
-use Rattle.printing.proofs.Showing.{held, next-none, next-last}
-use Rattle.printing.proofs.shown.show_next.Statement.{statement}
-use Rattle.printing.proofs.shown.show_next.Tie as tie
+use Rattle.showing.proofs.Showing.{held, next-none, next-last}
+use Rattle.showing.proofs.show_next.Statement.{statement}
+use Rattle.showing.proofs.show_next.Tie as tie
 
 returns : tie.Need-returns
 returns c = let a = c .before .before .before .args in c .show-none .ensures ∙ sym (next-none (a .papers) (a .stock .now) (a .shown) (c .before .if1 .taken))

@@ -1,4 +1,4 @@
--- `printing::shown::show_first` meets its contract.
+-- `showing::show_first` meets its contract.
 use mathlib.Core.Path.{_≡_, sym, ap, _∙_}
 use mathlib.Core.List.{List}
 use Prim.Native.Nat.{ℕ}
@@ -6,9 +6,9 @@ use native.Mathlib.Omega.{arith}
 use lib.ListN.{length, drop, replicate, length-append}
 use borrow.Author.Needs.{needs}
 use Rattle.rules.specs.Stock.{sum}
-use Rattle.printing.proofs.First.{room, length-0, part-0, first-shown}
-use Rattle.printing.proofs.shown.show_first.Statement.{statement}
-use Rattle.printing.proofs.shown.show_first.Tie as tie
+use Rattle.showing.proofs.First.{room, length-0, part-0, first-shown}
+use Rattle.showing.proofs.show_first.Statement.{statement}
+use Rattle.showing.proofs.show_first.Tie as tie
 
 module _ (b : tie.After-blocks2) where
   abbrev counts : List ℕ

@@ -18,11 +18,11 @@ use Rattle.counting.specs.Answers.{firstAfter}
 use Rattle.walker.specs.Walkers.{walkerOf, allForward}
 use Rattle.walker.specs.declared.open.Opened.{Opened}
 use Rattle.walker.specs.Answers.{openAnswer}
-use Rattle.printing.specs.declared.shown.Shown.{Shown}
+use Rattle.showing.specs.declared.Shown.{Shown}
 use Rattle.printed.specs.Output.{listOf}
-use Rattle.printing.specs.States.{walkerAt, shownAt}
+use Rattle.showing.specs.States.{walkerAt, shownAt}
 use Rattle.printed.proofs.Lines.{first-strip, first-number}
-use Rattle.printing.proofs.Showing.{shown-is}
+use Rattle.showing.proofs.Showing.{shown-is}
 
 drop-zeros : (n m : ℕ) → _≡_ {A = List ℕ} (drop n (replicate m 0)) (replicate (m - n) 0)
 drop-zeros zero m = let e : m - 0 ≡ m = omega arith in rw e
