@@ -17,7 +17,6 @@ use crate::spoiled::compare_sheets;
 use crate::tally;
 use crate::tally::Tally;
 use crate::tally::note;
-use crate::unfit::compare_unfit;
 
 // The strip of a number by itself.
 fn compare_strip(tally: &mut Tally, stock: &[u16], book: &[u8], i: usize, work: &mut [u8]) {
@@ -66,12 +65,11 @@ fn compare_all_pairs(tally: &mut Tally, stock: &[u16], book: &[u8], i: usize, n:
     }
 }
 
-// The pairs and the sheets of the strip of a number, and what is refused beside it, for stocks of up to 4 blocks.
+// The pairs and the sheets of the strip of a number, for stocks of up to 4 blocks.
 fn compare_small(tally: &mut Tally, stock: &[u16], book: &[u8], i: usize, n: usize) {
     if n <= 4 {
         compare_all_pairs(tally, stock, book, i, n);
         compare_sheets(tally, stock, book, i, n);
-        compare_unfit(tally, stock, strip_at(book, i, n));
     }
 }
 

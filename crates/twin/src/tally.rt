@@ -57,8 +57,6 @@ pub const STAND_AGAIN: usize = 24;
 
 pub const NEXT_PAPER: usize = 25;
 
-pub const PAPERS_REFUSED: usize = 26;
-
 fn add_one(tally: &mut Tally, i: usize) {
     if i < 64 {
         let seen = tally[i];
@@ -132,7 +130,6 @@ fn print_papers(tally: &Tally) {
     line(b"Stand: ", tally, STAND);
     line(b"Stand again: ", tally, STAND_AGAIN);
     line(b"Next paper: ", tally, NEXT_PAPER);
-    line(b"Papers, refused: ", tally, PAPERS_REFUSED);
 }
 
 fn print_sheets(tally: &Tally) {
