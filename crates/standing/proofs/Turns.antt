@@ -1,19 +1,18 @@
 -- Proofs. The turns of a strip: each is a turn of each other. What is proved of standing strips leans on `turns-self` to `turns-strip` alone.
 use Prim.Native.Nat.{ℕ, _+_, _-_, _<_}
 use mathlib.Core.Path.{_≡_, refl, sym, ap, _∙_}
-use mathlib.Core.Bool.{Bool, true, false, false≢true, or-true, _||_}
-use mathlib.Core.Logic.{_⊎_, inl, inr}
+use mathlib.Core.Bool.{true}
 use mathlib.Core.List.{List, [], _∷_, _++_, append-nil, append-assoc}
 use native.Mathlib.Decide.{decLt}
 use native.Mathlib.Omega.{arith}
-use lib.ListN.{length, take, drop, length-append, take-append-drop}
+use lib.ListN.{length, getD, take, drop, length-append, take-append-drop}
 use lib.Seq.{take-at, drop-at}
 use Rattle.rules.specs.Stock.{count, IsStrip}
 use Rattle.rules.specs.Book.{same}
 use Rattle.rules.proofs.Places.{same-self, same-true}
-use Rattle.papers.specs.Papers.{turned, turns, some, isTurn}
-use Rattle.papers.proofs.Turning.{length-turns, turns-at}
-use Rattle.dictionary.proofs.Sorted.{Strips, In, in-at, at-in}
+use Rattle.papers.specs.Papers.{turned, turns, isTurn}
+use Rattle.papers.proofs.Turning.{length-turns, turns-at, some-hit, some-where}
+use Rattle.dictionary.proofs.Sorted.{In, in-at, at-in}
 use Rattle.dictionary.proofs.Amounts.{Kinds, Same, count-append, kinds-append, append-kinds}
 use Rattle.dictionary.proofs.Places.{same-strip, strip-kinds}
 
@@ -142,25 +141,14 @@ turns-strip counts s u h i =
 
 -- ---- what Same paper says of them
 
-pub some-in : (u : List ℕ) (l : Strips) → some (λ t. same t u) l ≡ true → In u l
-unfolding some
-some-in u [] h = absurd (false≢true h)
-some-in u (s ∷ l) h = go (same s u) refl h (some-in u l)
-  where
-    go : (b : Bool) → same s u ≡ b → b || some (λ t. same t u) l ≡ true → (some (λ t. same t u) l ≡ true → In u l) → (s ≡ u) ⊎ In u l
-    go true e k rest = inl (same-true s u e)
-    go false e k rest = inr (rest k)
-
-pub in-some : (u : List ℕ) (l : Strips) → In u l → some (λ t. same t u) l ≡ true
-unfolding some
-in-some u [] h = absurd h
-in-some u (s ∷ l) (inl e) = rw (e, same-self u)
-in-some u (s ∷ l) (inr h) = rw (in-some u l h, or-true (same s u))
-
 pub same-paper-in : (s u : List ℕ) → isTurn s u ≡ true → In u (turns s)
 unfolding isTurn
-same-paper-in s u h = some-in u (turns s) h
+same-paper-in s u h =
+    let w = some-where (λ t. same t u) (turns s) h in
+    at-in u (turns s) (w .0) (w .1) (same-true (getD (turns s) (w .0) []) u (w .2))
 
 pub in-same-paper : (s u : List ℕ) → In u (turns s) → isTurn s u ≡ true
 unfolding isTurn
-in-same-paper s u h = in-some u (turns s) h
+in-same-paper s u h =
+    let w = in-at u (turns s) h in
+    some-hit (λ t. same t u) (turns s) (w .0) (w .1) (rw (w .2) (same-self u))
