@@ -1,3 +1,3 @@
--- The line that the program reads (to be believed), and how it is read.
+-- The line that the programs read (to be believed), and how it is read.
 pub mod Readable
 pub mod Reading

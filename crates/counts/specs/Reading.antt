@@ -1,4 +1,4 @@
--- How the program's line is read, byte after byte. What is read is exactly a readable line's counts (`read-readable`, `readable-read`, proved), so
+-- How the programs' line is read, byte after byte. What is read is exactly a readable line's counts (`read-readable`, `readable-read`, proved), so
 -- nothing here is to be believed.
 use Prim.Native.Nat.{ℕ, _+_, _*_, _-_}
 use mathlib.Core.Bool.{Bool, true, false, not, cond, _&&_, _||_}

@@ -1,4 +1,4 @@
-// The counts of the line that the printing program reads.
+// The counts of the line that the printing programs read.
 ghost use Prim.Native.Nat.{_≤_};
 ghost use mathlib.Core.Path.{_≡_};
 ghost use mathlib.Core.Bool.{false};

@@ -1,3 +1,3 @@
-// The lines that the printing program prints.
+// The lines that the printing programs print.
 mod text;
 pub mod writing;

@@ -1,4 +1,4 @@
-// The lines that the program prints.
+// The lines that the programs print.
 use crate::text::put_byte;
 use crate::text::put_decimal;
 use crate::text::put_word;
