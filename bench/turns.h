@@ -1,5 +1,5 @@
-/* Plain C on strips that are hung endless: the smallest turn is found, and a strip is tested, as the library does it.
- * Nothing is checked where the name does not say so. */
+/* Plain C on strips that are hung endless, either end up: the smallest turn is found, and a strip is tested, as the
+ * library does it. Nothing is checked where the name does not say so. */
 #ifndef TURNS_H
 #define TURNS_H
 
@@ -29,15 +29,16 @@ ALWAYS size_t least_turn(const uint8_t *twice, size_t n)
     return best;
 }
 
-/* Whether no turn of a strip comes before it. No block is looked at after the first that shows that one does. */
-ALWAYS bool is_standing(const uint8_t *strip, size_t n)
+/* Whether a turn of a strip, read backwards or not, comes before it; backwards it is known that none does as it stands.
+ * No block is looked at after the first that shows that one does. */
+ALWAYS bool some_before(const uint8_t *strip, size_t n, bool back)
 {
-    size_t t = 1, k = 0;
+    size_t t = back ? 0 : 1, k = 0;
     while (t < n) {
         size_t at = t + k < n ? t + k : t + k - n;
-        uint8_t one = strip[at], other = strip[k];
+        uint8_t one = strip[back ? n - 1 - at : at], other = strip[k];
         if (one < other) {
-            return false;
+            return true;
         }
         size_t next = k + 1;
         if (other < one) {
@@ -46,28 +47,55 @@ ALWAYS bool is_standing(const uint8_t *strip, size_t n)
         } else if (next < n) {
             k = next;
         } else {
-            return true;
+            return false;
         }
     }
-    return true;
+    return false;
+}
+
+/* Whether no turn of a strip comes before it. */
+ALWAYS bool is_standing(const uint8_t *strip, size_t n)
+{
+    return !some_before(strip, n, false) && !some_before(strip, n, true);
 }
 
 typedef struct {
     bool right;
     uint64_t turn;
+    bool reversed;
 } plain_stood;
 
+/* The smallest turn each way, and of the two the smaller. */
 CALLED plain_stood checked_stand(const uint16_t *stock, size_t kinds, uint8_t *strip, size_t n)
 {
     if (!is_right(stock, kinds, strip, n)) {
-        return (plain_stood){false, 0};
+        return (plain_stood){false, 0, false};
+    }
+    uint8_t there[128], back[128];
+    for (size_t i = 0; i < n; i++) {
+        back[i] = strip[n - 1 - i];
+    }
+    memcpy(back + n, back, n);
+    memcpy(there, strip, n);
+    memcpy(there + n, strip, n);
+    size_t t = least_turn(there, n), u = least_turn(back, n);
+    bool reversed = memcmp(back + u, there + t, n) < 0;
+    memcpy(strip, reversed ? back + u : there + t, n);
+    return (plain_stood){true, reversed ? u : t, reversed};
+}
+
+/* The smallest turn of a strip as it stands, to see what looking both ways costs. */
+CALLED plain_stood checked_stand_one_way(const uint16_t *stock, size_t kinds, uint8_t *strip, size_t n)
+{
+    if (!is_right(stock, kinds, strip, n)) {
+        return (plain_stood){false, 0, false};
     }
     uint8_t twice[128];
     memcpy(twice, strip, n);
     memcpy(twice + n, strip, n);
     size_t t = least_turn(twice, n);
     memcpy(strip, twice + t, n);
-    return (plain_stood){true, t};
+    return (plain_stood){true, t, false};
 }
 
 typedef struct {

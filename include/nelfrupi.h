@@ -12,8 +12,8 @@
  *   dictionary, dictionary number
  *            the same strips as in a dictionary: of two, the first place at which they differ decides, and the lower kind
  *            comes first. A strip's place there, counted from 0, is its dictionary number.
- *   paper    what a strip is when it is hung endless: the strip and all its turns are one paper. The smallest of them in
- *            dictionary order is the standing strip of the paper.
+ *   paper    what a strip is when it is hung endless, either end up: the strip and all its turns, as it stands and read
+ *            backwards, are one paper. The smallest of them in dictionary order is the standing strip of the paper.
  *
  * LENDING
  *   A list is lent as a pointer to its first element and a length, which is a number of elements. The pointer is not
@@ -159,8 +159,8 @@ typedef struct {
     bool same;
 } nelfrupi_asked;
 
-/* Same paper: whether the second strip is the first turned round. Turning by t places, t from 0 to n - 1, takes the
- * first t blocks in order to the end.
+/* Same paper: whether the second strip is the first turned round, as it stands or read backwards. Turning by t places, t
+ * from 0 to n - 1, takes the first t blocks in order to the end.
  * Refused: 1, 2, 3; then 4, 5, 6 of the first strip; then 4, 5, 6 of the second. */
 nelfrupi_asked nelfrupi_same_paper(const uint16_t *stock, size_t kinds, const uint8_t *first, size_t first_length,
                                    const uint8_t *second, size_t second_length);
@@ -168,11 +168,13 @@ nelfrupi_asked nelfrupi_same_paper(const uint16_t *stock, size_t kinds, const ui
 typedef struct {
     nelfrupi_refusal refusal;
     uint64_t turn;
+    bool reversed;
 } nelfrupi_stood;
 
-/* Stand: the strip becomes the one that stands for its paper, of all its turns the smallest in dictionary order. `turn` is
- * the smallest number of places to turn the strip by to have it. Two strips become the same exactly when Same paper says
- * yes.
+/* Stand: the strip becomes the one that stands for its paper, of all its turns, as it stands and read backwards, the
+ * smallest in dictionary order. `reversed` says whether the strip was reversed first, which it is only where no turn of it
+ * as it stands will do; `turn` is the smallest number of places to turn it by then. Refused, 0 and false. Two strips become
+ * the same exactly when Same paper says yes.
  * Refused: 1, 2, 3, 4, 5, 6. */
 nelfrupi_stood nelfrupi_stand(const uint16_t *stock, size_t kinds, uint8_t *strip, size_t length);
 

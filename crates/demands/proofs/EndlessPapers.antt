@@ -1,8 +1,8 @@
--- Document 02, P7. Endless papers: of all turns of a strip the smallest in dictionary order stands for the paper, and next paper steps from one standing strip to the next. All is said over the
--- contracts of the calls. The refusals are `stand-refuses` and `next-paper-refuses` in First.antt.
+-- Document 02, P7. Endless papers: of all turns of a strip, since P8 also foot up, the smallest in dictionary order stands for the paper, and next paper steps from one standing strip to the next.
+-- All is said over the contracts of the calls. The refusals are `stand-refuses` and `next-paper-refuses` in First.antt.
 use Prim.Native.Nat.{ℕ, suc, _+_, _-_, _^_, _≤_, _<_}
 use mathlib.Core.Path.{_≡_, sym, _∙_}
-use mathlib.Core.Bool.{true}
+use mathlib.Core.Bool.{true, false}
 use mathlib.Core.List.{List, []}
 use native.Mathlib.Omega.{arith}
 use lib.ListN.{getD}
@@ -32,7 +32,7 @@ use Rattle.endless.proofs.stand.stand.Kinds as stand
 use Rattle.endless.proofs.stand.stand.Reads as stand-reads
 use Rattle.endless.proofs.next_paper.next_paper.Kinds as next-paper
 use Rattle.endless.proofs.next_paper.next_paper.Reads as next-paper-reads
--- the smallest turn stands, and the smallest number of places leads to it: any outcome of stand
+-- the smallest turn stands, and the smallest number of places leads to it, the strip reversed or not: any outcome of stand
 pub use Rattle.endless.proofs.Theorems.{stand-right}
 -- found, none left and stopped: what each means, exactly when it is given, and that one always is: any outcome of next paper
 pub use Rattle.endless.proofs.Theorems.{next-paper-right}
@@ -49,10 +49,10 @@ module _ (κs κt : Lfts 2) (κu : Lfts 3) (a : Dens κs stand.ps) (b : Dens κt
     (s : AtExit (endedOf 2 stand.ps stand.r) κs) (t : AtExit (endedOf 2 stand.ps stand.r) κt) (u : AtExit (endedOf 3 same-paper.ps same-paper.r) κu)
     (h : stand-reads.Post κs a x s) (k : stand-reads.Post κt b y t) (m : same-paper-reads.Post κu p q u)
     (stock : a .0 .now ≡ p .0 .now) (stock-too : b .0 .now ≡ p .0 .now) (first-strip : a .1 .0 .now ≡ p .1 .0 .now) (second-strip : b .1 .0 .now ≡ p .1 .1 .0 .now) where
-  one : StandRight (p .0 .now) (p .1 .0 .now) (s .1 .0 .now) (x .refusal .no) (x .turn)
+  one : StandRight (p .0 .now) (p .1 .0 .now) (s .1 .0 .now) (x .refusal .no) (x .turn) (x .reversed)
   one = rw (stock, first-strip) at (stand-right κs a x s h)
 
-  two : StandRight (p .0 .now) (p .1 .1 .0 .now) (t .1 .0 .now) (y .refusal .no) (y .turn)
+  two : StandRight (p .0 .now) (p .1 .1 .0 .now) (t .1 .0 .now) (y .refusal .no) (y .turn) (y .reversed)
   two = rw (stock-too, second-strip) at (stand-right κt b y t k)
 
   module _ (e : q .refusal .no ≡ 0) where
@@ -63,20 +63,20 @@ module _ (κs κt : Lfts 2) (κu : Lfts 3) (a : Dens κs stand.ps) (b : Dens κt
 
     pub same-paper-same-standing : q .same ≡ true → s .1 .0 .now ≡ t .1 .0 .now
     same-paper-same-standing f =
-        turn-left-same (p .0 .now) (p .1 .0 .now) (p .1 .1 .0 .now) (s .1 .0 .now) (t .1 .0 .now) _ _ _ _ one two (both-stand .0) (both-stand .1) (sym (same-is κu p q u m e) ∙ f)
+        turn-left-same (p .0 .now) (p .1 .0 .now) (p .1 .1 .0 .now) (s .1 .0 .now) (t .1 .0 .now) _ _ _ _ _ _ one two (both-stand .0) (both-stand .1) (sym (same-is κu p q u m e) ∙ f)
 
     pub same-standing-same-paper : s .1 .0 .now ≡ t .1 .0 .now → q .same ≡ true
     same-standing-same-paper f =
-        same-is κu p q u m e ∙ left-same-turn (p .0 .now) (p .1 .0 .now) (p .1 .1 .0 .now) (s .1 .0 .now) (t .1 .0 .now) _ _ _ _ one two (both-stand .0) (both-stand .1) f
+        same-is κu p q u m e ∙ left-same-turn (p .0 .now) (p .1 .0 .now) (p .1 .1 .0 .now) (s .1 .0 .now) (t .1 .0 .now) _ _ _ _ _ _ one two (both-stand .0) (both-stand .1) f
 
--- ---- standing twice changes nothing, and turns by 0 places
+-- ---- standing twice changes nothing: the second time the strip is not reversed, and turned by 0 places
 
 -- b of a second call, lent the strip that the first left
 pub standing-again : (κs κt : Lfts 2) (a : Dens κs stand.ps) (b : Dens κt stand.ps) (x y : Stood) (s : AtExit (endedOf 2 stand.ps stand.r) κs) (t : AtExit (endedOf 2 stand.ps stand.r) κt)
     → stand-reads.Post κs a x s → stand-reads.Post κt b y t → b .0 .now ≡ a .0 .now → b .1 .0 .now ≡ s .1 .0 .now → x .refusal .no ≡ 0
-    → (y .refusal .no ≡ 0) × (t .1 .0 .now ≡ s .1 .0 .now) × (y .turn ≡ 0)
+    → (y .refusal .no ≡ 0) × (t .1 .0 .now ≡ s .1 .0 .now) × (y .turn ≡ 0) × (y .reversed ≡ false)
 standing-again κs κt a b x y s t h k stock lent e =
-    endless.stand-twice (a .0 .now) (a .1 .0 .now) (s .1 .0 .now) (t .1 .0 .now) _ _ _ _ (stand-right κs a x s h) (rw (stock, lent) at (stand-right κt b y t k)) e
+    endless.stand-twice (a .0 .now) (a .1 .0 .now) (s .1 .0 .now) (t .1 .0 .now) _ _ _ _ _ _ (stand-right κs a x s h) (rw (stock, lent) at (stand-right κt b y t k)) e
 
 -- ---- what First leaves is standing
 

@@ -220,7 +220,7 @@ same-paper-refuses κs a r s h = record { named = ap (λ (r : Asked). r .refusal
 -- ---- Stand: 1 to 6. The strip stays
 
 pub stand-refuses : (κs : Lfts 2) (a : Dens κs stand.ps) (r : Stood) (s : AtExit (endedOf 2 stand.ps stand.r) κs) → stand-reads.Post κs a r s
-    → Refuses (checkNos (a .0 .now) (a .1 .0 .now)) (r .refusal) ((r .turn ≡ 0) × (s .1 .0 .now ≡ a .1 .0 .now))
+    → Refuses (checkNos (a .0 .now) (a .1 .0 .now)) (r .refusal) ((r .turn ≡ 0) × (r .reversed ≡ false) × (s .1 .0 .now ≡ a .1 .0 .now))
 unfolding standAnswer
 stand-refuses κs a r s h = record { named = ap (λ (r : Stood). r .refusal) (h .0); left = stand-right κs a r s h .kept }
 

@@ -8,4 +8,5 @@ pub mod SoldOut
 pub mod Coffee
 pub mod SortingTable
 pub mod EndlessPapers
+pub mod FootUp
 pub mod Outcomes

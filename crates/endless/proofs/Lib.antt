@@ -4,6 +4,6 @@ pub mod Listing
 pub mod Theorems
 pub mod Chain
 pub mod Marked
+mod Hung
 mod Steps
-mod Reversals
 mod Copies

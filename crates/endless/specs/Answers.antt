@@ -1,21 +1,21 @@
--- TO BE BELIEVED. Document 02, P7: what the calls on endless papers answer, and what they leave in the lent strip. Refusals of both: 1 to 6.
+-- TO BE BELIEVED. Document 02, P7 and P8: what the calls on endless papers answer, and what they leave in the lent strip. Refusals of both: 1 to 6.
 use Prim.Native.Nat.{ℕ}
+use mathlib.Core.Bool.{false}
 use mathlib.Core.List.{List}
-use Rattle.rules.specs.Refusals.{No, firstOf, unless, answer, checkNos}
+use Rattle.rules.specs.Refusals.{firstOf, unless, checkNos}
 use Rattle.stock.specs.Refused.{refusal}
 use Rattle.dictionary.specs.Dictionary.{dictionary}
 use Rattle.searching.specs.Searching.{later, outcome, stepsMade, foundOr}
-use Rattle.standing.specs.Standing.{standing, turnOf, isStanding}
+use Rattle.standing.specs.Standing.{standing, isReversed, turnOf, isStanding}
 use Rattle.endless.specs.declared.stand.Stood.{Stood}
 use Rattle.endless.specs.declared.next_paper.Stepped.{Stepped}
 
--- ---- Stand: the strip becomes the standing one; the answer is the smallest number of places to turn by. Refused: 0, and the strip stays
-
-abbrev pub asStood : No → ℕ → Stood
-asStood r t = record { refusal = refusal r; turn = t }
+-- ---- Stand: the strip becomes the standing one; the answer is whether it is reversed, and then the smallest number of places to turn by. Refused: no and 0, and the strip stays
 
 unfoldable pub standAnswer : List ℕ → List ℕ → Stood
-standAnswer counts s = answer asStood (checkNos counts s) 0 (turnOf s)
+standAnswer counts s =
+    let r = firstOf (checkNos counts s) in
+    record { refusal = refusal r; turn = unless r 0 (turnOf s); reversed = unless r false (isReversed s) }
 
 unfoldable pub standAfter : List ℕ → List ℕ → List ℕ
 standAfter counts s = unless (firstOf (checkNos counts s)) s (standing s)

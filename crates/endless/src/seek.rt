@@ -1,5 +1,5 @@
 // Looking for the next standing strip, step by step.
-use standing::is_standing;
+use hanging::is_standing;
 use succession::next_entry;
 ghost use Prim.Native.Nat.{ℕ, _≤_, _<_};
 ghost use mathlib.Core.List.{List};

@@ -1,23 +1,20 @@
 -- Theorems on Same paper, over its contract as the function states it.
 use Prim.Native.Nat.{ℕ, _<_}
 use mathlib.Core.Path.{_≡_, sym, ap, _∙_}
-use mathlib.Core.Bool.{true, false}
-use mathlib.Core.List.{List, []}
-use native.Mathlib.Omega.{arith}
-use lib.ListN.{length, getD}
+use mathlib.Core.Bool.{Bool, true, false}
+use mathlib.Core.List.{List}
+use lib.ListN.{length}
 use contract.Lifetimes.{Lfts}
 use borrow.Fn.Kinds.{Dens, endedOf}
 use denote.Triple.Clauses.{AtExit}
 use Rattle.rules.specs.Stock.{IsStock, IsStrip}
-use Rattle.rules.specs.Book.{same}
 use Rattle.rules.specs.Refusals.{firstOf, pairNos}
 use Rattle.rules.specs.Outcome.{OneAnswer}
 use Rattle.rules.proofs.Refusals.{unless-refused, unless-passed}
 use Rattle.rules.proofs.Checks.{accepted-pair, accepted-pair-back}
-use Rattle.rules.proofs.Places.{same-self, same-true}
 use Rattle.papers.specs.declared.Asked.{Asked}
-use Rattle.papers.specs.Papers.{turned, turns, isTurn, samePaperAnswer}
-use Rattle.papers.proofs.Turning.{length-turns, turns-at, some-where, turn-hit}
+use Rattle.papers.specs.Papers.{turned, hung, isTurn, samePaperAnswer}
+use Rattle.papers.proofs.Turning.{hung-turn, turn-hung}
 use Rattle.papers.proofs.same_paper.Kinds as same-paper
 use Rattle.papers.proofs.same_paper.Reads as reads
 
@@ -56,14 +53,10 @@ module _ (κs : Lfts 3) (a : Dens κs same-paper.ps) (r : Asked) (s : AtExit (en
   unfolding samePaperAnswer
   refused-no e = ap (λ (r : Asked). r .same) h ∙ unless-refused false _ _ (λ k. e (no-is ∙ k))
 
-  -- yes: the second strip is the first turned by some number of places below n
-  pub yes-turned : r .refusal .no ≡ 0 → r .same ≡ true → (t : ℕ) × (t < length first) × (turned t first ≡ second)
-  unfolding isTurn
-  yes-turned e y =
-      let w = some-where (λ t. same t second) (turns first) (sym (same-is e) ∙ y) in
-      let l : w .0 < length first = omega (arith, w .1, length-turns first) in
-      (w .0, l, sym (turns-at first (w .0) l) ∙ same-true (getD (turns first) (w .0) []) second (w .2))
+  -- yes: the second strip is the first, as it stands or foot up, turned by some number of places below n
+  pub yes-turned : r .refusal .no ≡ 0 → r .same ≡ true → (back : Bool) × (t : ℕ) × (t < length first) × (turned t (hung back first) ≡ second)
+  yes-turned e y = turn-hung first second (sym (same-is e) ∙ y)
 
   -- and back
-  pub turned-yes : r .refusal .no ≡ 0 → (t : ℕ) → t < length first → turned t first ≡ second → r .same ≡ true
-  turned-yes e t l f = same-is e ∙ sym (turn-hit first second t l (rw f (sym (same-self second))))
+  pub turned-yes : r .refusal .no ≡ 0 → (back : Bool) (t : ℕ) → t < length first → turned t (hung back first) ≡ second → r .same ≡ true
+  turned-yes e back t l f = same-is e ∙ hung-turn first second back t l f

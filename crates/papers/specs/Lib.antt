@@ -1,2 +1,3 @@
--- TO BE BELIEVED: what it is to turn a strip round, and what Same paper answers.
+-- TO BE BELIEVED: what it is to turn a strip round and to hang it foot up, and what Same paper answers. `Blocks` is the exception: it is what reading a block promises.
 pub mod Papers
+pub mod Blocks

@@ -1,9 +1,9 @@
--- TO BE BELIEVED. Document 01, Same paper: a strip turned round by some number of places.
+-- TO BE BELIEVED. Document 01, Same paper, as document 02, P8, has it: a strip turned round by some number of places, as it stands or read backwards.
 use Prim.Native.Nat.{ℕ, zero, suc}
 use mathlib.Core.Bool.{Bool, false, _||_}
-use mathlib.Core.List.{List, [], _∷_, _++_, map}
+use mathlib.Core.List.{List, [], _∷_, _++_, map, reverse}
 use lib.ListN.{length, take, drop}
-use Rattle.rules.specs.Book.{same}
+use Rattle.rules.specs.Book.{turn, same}
 use Rattle.rules.specs.Refusals.{No, answer, pairNos}
 use Rattle.stock.specs.Refused.{refusal}
 use Rattle.papers.specs.declared.Asked.{Asked}
@@ -17,10 +17,19 @@ unfoldable pub upTo : ℕ → List ℕ
 upTo zero = []
 upTo (suc n) = upTo n ++ (n ∷ [])
 
--- the turns of a strip: by 0 to n - 1 places, in that order
-unfoldable pub turns : List ℕ → List (List ℕ)
+-- the turns of a strip as it stands: by 0 to n - 1 places, in that order
+unfoldable pub turnsOf : List ℕ → List (List ℕ)
 unfolding turned upTo
-turns s = map (λ t. turned t s) (upTo (length s))
+turnsOf s = map (λ t. turned t s) (upTo (length s))
+
+-- a strip as it hangs: foot up it is read backwards
+abbrev pub hung : Bool → List ℕ → List ℕ
+hung footUp s = turn footUp s
+
+-- the turns of a strip, as it stands and then foot up
+unfoldable pub turns : List ℕ → List (List ℕ)
+unfolding turnsOf
+turns s = turnsOf s ++ turnsOf (reverse s)
 
 -- whether a test holds of some strip of a list
 unfoldable pub some : (List ℕ → Bool) → List (List ℕ) → Bool

@@ -1,11 +1,14 @@
 // Papers: whether two strips, hung endless, are the same paper.
+mod places;
+
+pub use places::block_at;
 use stock::Refusal;
 use stock::check_pair;
-ghost use Prim.Native.Nat.{_+_, _%_, _≤_, _<_};
+ghost use Prim.Native.Nat.{_≤_, _<_};
 ghost use mathlib.Core.Path.{_≡_};
-ghost use lib.ListN.{length, getD};
+ghost use lib.ListN.{length};
 ghost use Rattle.rules.specs.Book.{same};
-ghost use Rattle.papers.specs.Papers.{turned, isTurn, samePaperAnswer};
+ghost use Rattle.papers.specs.Papers.{turned, turnsOf, hung, some, isTurn, samePaperAnswer};
 
 // What Same paper answers.
 #[repr(C)]
@@ -14,27 +17,15 @@ pub struct Asked {
     pub same: bool,
 }
 
-// The block at a place of a strip that is hung endless: after the last block comes the first again.
-pub fn block_at(strip: &[u8], i: usize) -> u8
-    requires { ⌜ (length (now strip) ≤ 64) × (i < length (now strip) + length (now strip)) ⌝ }
-    ensures { λ r. ⌜ r ≡ getD (now (strip .entry)) (i % length (now (strip .entry))) 0 ⌝ }
-{
-    let n = strip.len();
-    if i < n {
-        return strip[i];
-    }
-    strip[i - n]
-}
-
-// Whether the second strip is the first turned by t places.
-fn turned_by(first: &[u8], second: &[u8], t: usize) -> bool
+// Whether the second strip is the first, hung foot up or not, turned by t places.
+fn turned_by(first: &[u8], back: bool, second: &[u8], t: usize) -> bool
     requires { ⌜ (length (now first) ≡ length (now second)) × (length (now first) ≤ 64) × (t < length (now first)) ⌝ }
-    ensures { λ r. ⌜ r ≡ same (turned t (now (first .entry))) (now (second .entry)) ⌝ }
+    ensures { λ r. ⌜ r ≡ same (turned t (hung back (now (first .entry)))) (now (second .entry)) ⌝ }
 {
     let n = first.len();
     let mut i = 0;
     while i < n {
-        if block_at(first, i + t) != second[i] {
+        if block_at(first, back, i + t) != second[i] {
             return false;
         }
         i += 1;
@@ -42,20 +33,31 @@ fn turned_by(first: &[u8], second: &[u8], t: usize) -> bool
     true
 }
 
-// Whether the second strip is the first turned by some number of places.
-fn is_turn(first: &[u8], second: &[u8]) -> bool
+// Whether the second strip is the first, hung foot up or not, turned by some number of places.
+fn is_turn_of(first: &[u8], back: bool, second: &[u8]) -> bool
     requires { ⌜ (length (now first) ≡ length (now second)) × (length (now first) ≤ 64) ⌝ }
-    ensures { λ r. ⌜ r ≡ isTurn (now (first .entry)) (now (second .entry)) ⌝ }
+    ensures { λ r. ⌜ r ≡ some (λ t. same t (now (second .entry))) (turnsOf (hung back (now (first .entry)))) ⌝ }
 {
     let n = first.len();
     let mut t = 0;
     while t < n {
-        if turned_by(first, second, t) {
+        if turned_by(first, back, second, t) {
             return true;
         }
         t += 1;
     }
     false
+}
+
+// Whether the second strip is a turn of the first, as it stands or foot up.
+fn is_turn(first: &[u8], second: &[u8]) -> bool
+    requires { ⌜ (length (now first) ≡ length (now second)) × (length (now first) ≤ 64) ⌝ }
+    ensures { λ r. ⌜ r ≡ isTurn (now (first .entry)) (now (second .entry)) ⌝ }
+{
+    if is_turn_of(first, false, second) {
+        return true;
+    }
+    is_turn_of(first, true, second)
 }
 
 // Whether the two strips are the same paper.

@@ -1,5 +1,5 @@
--- TO BE BELIEVED. Document 01, "The printing program", and document 02, P7: the lines that are printed for an input, in order. With the flag false they are the
--- strips of the book; with true the standing strips of the dictionary, one for each endless paper.
+-- TO BE BELIEVED. Document 01, "The printing program", and document 02, P7 and P8: the lines that are printed for an input, in order. With the flag false they are
+-- the strips of the book; with true the standing strips of the dictionary, one for each endless paper.
 use Prim.Native.Nat.{ℕ}
 use mathlib.Core.Bool.{Bool, true, false}
 use mathlib.Core.Option.{Option, none, some}

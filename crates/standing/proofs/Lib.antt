@@ -1,8 +1,6 @@
 -- Proofs: nobody needs to read these to know what holds.
 pub mod Turns
-mod Smallest
+pub mod Smallest
 pub mod Theorems
+pub mod OnePaper
 pub mod Marked
-mod Hung
-mod NoneBefore
-mod Leading

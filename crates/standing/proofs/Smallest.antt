@@ -13,8 +13,8 @@ use Rattle.dictionary.proofs.Order.{Before, before-true, not-before, irreflexiv
 use Rattle.dictionary.proofs.Sorted.{Strips, In, Each}
 use Rattle.standing.specs.Standing.{smallestOf}
 
--- it is one of them
-pub smallest-in : (s : List ℕ) (l : Strips) → (s ≡ smallestOf s l) ⊎ In (smallestOf s l) l
+-- it is s or one of them
+smallest-in : (s : List ℕ) (l : Strips) → (s ≡ smallestOf s l) ⊎ In (smallestOf s l) l
 unfolding smallestOf
 smallest-in s [] = inl refl
 smallest-in s (t ∷ l) = go (before t s) (smallest-in t l) (smallest-in s l)
@@ -27,7 +27,7 @@ smallest-in s (t ∷ l) = go (before t s) (smallest-in t l) (smallest-in s l)
     go false h (inr i) = inr (inr i)
 
 -- none of them comes before it
-pub smallest-least : (n : ℕ) (s : List ℕ) (l : Strips) → length s ≡ n → Each (λ t. length t ≡ n) l → (u : List ℕ) → (s ≡ u) ⊎ In u l → Before u (smallestOf s l) → ⊥
+smallest-least : (n : ℕ) (s : List ℕ) (l : Strips) → length s ≡ n → Each (λ t. length t ≡ n) l → (u : List ℕ) → (s ≡ u) ⊎ In u l → Before u (smallestOf s l) → ⊥
 unfolding smallestOf
 smallest-least n s [] e h u (inl f) b = irreflexive s (rw (← f) at b)
 smallest-least n s [] e h u (inr i) b = i
@@ -47,6 +47,23 @@ smallest-least n s (t ∷ l) e h u i b = go (before t s) refl i b (smallest-leas
     go false f (inl g) k p q = q u (inl g) k
     go false f (inr (inl g)) k p q = q s (inl refl) (after f (smallestOf s l) (rw (← g) at k))
     go false f (inr (inr g)) k p q = q u (inr g) k
+
+-- ---- where s is one of them, and all are as long
+
+each-of-in : (P : List ℕ → Type 0) (l : Strips) → ((u : List ℕ) → In u l → P u) → Each P l
+each-of-in P [] h = tt
+each-of-in P (s ∷ l) h = (h s (inl refl), each-of-in P l (λ u i. h u (inr i)))
+
+module _ (s : List ℕ) (l : Strips) (own : In s l) (one : (u : List ℕ) → In u l → length u ≡ length s) where
+  pub smallest-one : In (smallestOf s l) l
+  smallest-one = go (smallest-in s l)
+    where
+      go : (s ≡ smallestOf s l) ⊎ In (smallestOf s l) l → In (smallestOf s l) l
+      go (inl e) = rw (← e) own
+      go (inr i) = i
+
+  pub none-smaller : (u : List ℕ) → In u l → Before u (smallestOf s l) → ⊥
+  none-smaller u i = smallest-least (length s) s l refl (each-of-in (λ t. length t ≡ length s) l one) u (inr i)
 
 -- the place of an entry: it stands there, and nowhere before
 pub place-in : (l : Strips) (s : List ℕ) → In s l → (placeIn l s < length l) × (getD l (placeIn l s) [] ≡ s) × ((i : ℕ) → i < placeIn l s → getD l i [] ≡ s → ⊥)

@@ -1,64 +1,79 @@
 -- Theorems on endless papers: the standing strip, and the papers of a stock.
 use Prim.Native.Nat.{ℕ, _<_}
-use mathlib.Core.Path.{_≡_, refl, sym, _∙_}
-use mathlib.Core.Bool.{true}
-use mathlib.Core.Logic.{_⊎_, inl, inr}
-use mathlib.Core.List.{List, [], _∷_}
+use mathlib.Core.Path.{_≡_, refl, sym, ap, _∙_}
+use mathlib.Core.Bool.{Bool, true, false, not, false≢true}
+use mathlib.Core.List.{List, [], reverse}
 use native.Mathlib.Omega.{arith}
-use lib.ListN.{length, getD}
+use lib.ListN.{length, getD, length-reverse}
 use Rattle.rules.specs.Stock.{IsStrip}
-use Rattle.rules.specs.Book.{same, placeIn}
+use Rattle.rules.specs.Book.{turn, same, placeIn}
 use Rattle.rules.proofs.Places.{same-self, same-true}
-use Rattle.papers.specs.Papers.{turned, turns, isTurn}
-use Rattle.papers.proofs.Turning.{length-turns, turns-at}
+use Rattle.papers.specs.Papers.{turned, turnsOf, hung, turns, some, isTurn}
+use Rattle.papers.proofs.Turning.{length-turns-of, turns-of-at, hung-length}
 use Rattle.dictionary.specs.Dictionary.{dictionary}
 use Rattle.dictionary.proofs.Order.{Before, Ordered, less, equal, more, ordered, true-before}
-use Rattle.dictionary.proofs.Sorted.{Strips, In, Each}
+use Rattle.dictionary.proofs.Sorted.{In}
 use Rattle.dictionary.proofs.Theorems.{dictionary-undone, before-smaller}
-use Rattle.standing.specs.Standing.{smallestOf, standing, turnOf, isStanding}
-use Rattle.standing.proofs.Turns.{turns-self, turns-length, turns-back, turns-on, turns-strip, same-paper-in, in-same-paper}
-use Rattle.standing.proofs.Smallest.{smallest-in, smallest-least, place-in}
-
-each-of-in : (P : List ℕ → Type 0) (l : Strips) → ((u : List ℕ) → In u l → P u) → Each P l
-each-of-in P [] h = tt
-each-of-in P (s ∷ l) h = (h s (inl refl), each-of-in P l (λ u i. h u (inr i)))
+use Rattle.standing.specs.Standing.{standing, isReversed, turnOf, isStanding}
+use Rattle.standing.proofs.Turns.{some-in, in-some, turn-of-in, in-turn, turns-self, turns-length, turns-back, turns-on, turns-strip, same-paper-in, in-same-paper}
+use Rattle.standing.proofs.Smallest.{smallest-one, none-smaller, place-in}
 
 module _ (s : List ℕ) (h : 0 < length s) where
   -- the standing strip is a turn of the strip
   pub standing-in : In (standing s) (turns s)
   unfolding standing
-  standing-in = go (smallest-in s (turns s))
-    where
-      go : (s ≡ smallestOf s (turns s)) ⊎ In (smallestOf s (turns s)) (turns s) → In (smallestOf s (turns s)) (turns s)
-      go (inl e) = rw (← e) (turns-self s h)
-      go (inr i) = i
+  standing-in = smallest-one s (turns s) (turns-self s h) (turns-length s h)
 
   -- and no turn of it comes before
   pub standing-least : (u : List ℕ) → In u (turns s) → Before u (standing s) → ⊥
   unfolding standing
-  standing-least u i = smallest-least (length s) s (turns s) refl (each-of-in (λ t. length t ≡ length s) (turns s) (turns-length s h)) u (inr i)
+  standing-least = none-smaller s (turns s) (turns-self s h) (turns-length s h)
 
   pub standing-length : length (standing s) ≡ length s
   standing-length = turns-length s h (standing s) standing-in
 
-  -- the smallest number of places leads to it
-  pub turn-least : (turnOf s < length s) × (turned (turnOf s) s ≡ standing s) × ((t : ℕ) → t < turnOf s → turned t s ≡ standing s → ⊥)
+  -- so it is the turn that none comes before
+  pub standing-is : (u : List ℕ) → In u (turns s) → ((v : List ℕ) → In v (turns s) → Before v u → ⊥) → standing s ≡ u
+  standing-is u i none = go (ordered (standing s) u (standing-length ∙ sym (turns-length s h u i)))
+    where
+      go : Ordered (standing s) u → standing s ≡ u
+      go (less b) = absurd (none (standing s) standing-in b)
+      go (equal e) = e
+      go (more b) = absurd (standing-least u i b)
+
+  -- the strip is read backwards only where no turn of it as it stands is the standing strip
+  pub reversed-only : isReversed s ≡ true → (t : ℕ) → t < length s → turned t s ≡ standing s → ⊥
+  unfolding isReversed
+  reversed-only e t l f = false≢true (ap not (sym (in-some (standing s) (turnsOf s) (rw f at (turn-of-in s t l)))) ∙ e)
+
+  -- so read, one of its turns is
+  standing-hung : In (standing s) (turnsOf (hung (isReversed s) s))
+  unfolding isReversed turn
+  standing-hung = go (some (λ t. same t (standing s)) (turnsOf s)) refl (in-turn s (standing s) standing-in)
+    where
+      go : (b : Bool) → some (λ t. same t (standing s)) (turnsOf s) ≡ b → (back : Bool) × (t : ℕ) × (t < length s) × (turned t (hung back s) ≡ standing s)
+          → In (standing s) (turnsOf (hung (not (some (λ t. same t (standing s)) (turnsOf s))) s))
+      go true e w = rw e (some-in (standing s) (turnsOf s) e)
+      go false e (false, t, l, f) = absurd (false≢true (sym e ∙ in-some (standing s) (turnsOf s) (rw f at (turn-of-in s t l))))
+      go false e (true, t, l, f) = rw e (rw f at (turn-of-in (reverse s) t (omega (arith, length-reverse s))))
+
+  -- and the smallest number of places leads to it
+  pub turn-least : (turnOf s < length s) × (turned (turnOf s) (hung (isReversed s) s) ≡ standing s) × ((t : ℕ) → t < turnOf s → turned t (hung (isReversed s) s) ≡ standing s → ⊥)
   unfolding turnOf
   turn-least =
-      let w = place-in (turns s) (standing s) standing-in in
-      let below : placeIn (turns s) (standing s) < length s = omega (arith, w .0, length-turns s) in
-      (below, sym (turns-at s (placeIn (turns s) (standing s)) below) ∙ w .1, λ t l e. w .2 t l (turns-at s t (omega arith) ∙ e))
+      let v = hung (isReversed s) s in
+      let w = place-in (turnsOf v) (standing s) standing-hung in
+      let below : placeIn (turnsOf v) (standing s) < length v = omega (arith, w .0, length-turns-of v) in (
+        omega (arith, below, hung-length (isReversed s) s),
+        sym (turns-of-at v (placeIn (turnsOf v) (standing s)) below) ∙ w .1,
+        λ t l e. w .2 t l (turns-of-at v t (omega arith) ∙ e),
+      )
 
 -- two strips that are turns of each other have one standing strip
 same-standing : (s u : List ℕ) → 0 < length s → In u (turns s) → standing s ≡ standing u
 same-standing s u h i =
     let k : 0 < length u = omega (arith, turns-length s h u i) in
-    go k (ordered (standing s) (standing u) (standing-length s h ∙ sym (turns-length s h u i) ∙ sym (standing-length u k)))
-  where
-    go : 0 < length u → Ordered (standing s) (standing u) → standing s ≡ standing u
-    go k (less b) = absurd (standing-least u k (standing s) (turns-on u k s (standing s) (turns-back s h u i) (standing-in s h)) b)
-    go k (equal e) = e
-    go k (more b) = absurd (standing-least s h (standing u) (turns-on s h u (standing u) i (standing-in u k)) b)
+    standing-is s h (standing u) (turns-on s h u (standing u) i (standing-in u k)) (λ v j. standing-least u k v (turns-on u k s v (turns-back s h u i) j))
 
 -- Two strips have the same standing strip exactly when Same paper says yes.
 pub standing-paper : (s u : List ℕ) → 0 < length s → isTurn s u ≡ true → standing s ≡ standing u
@@ -84,12 +99,7 @@ standing-own s e = same-true (standing s) s e
 -- it stands exactly when no turn of it comes before it
 pub standing-if : (s : List ℕ) → 0 < length s → ((u : List ℕ) → In u (turns s) → Before u s → ⊥) → isStanding s ≡ true
 unfolding isStanding
-standing-if s h none = go (ordered (standing s) s (standing-length s h))
-  where
-    go : Ordered (standing s) s → same (standing s) s ≡ true
-    go (less b) = absurd (none (standing s) (standing-in s h) b)
-    go (equal e) = rw e (same-self s)
-    go (more b) = absurd (standing-least s h s (turns-self s h) b)
+standing-if s h none = rw (standing-is s h s (turns-self s h) none) (same-self s)
 
 pub standing-only : (s : List ℕ) → 0 < length s → isStanding s ≡ true → (u : List ℕ) → In u (turns s) → Before u s → ⊥
 standing-only s h e u i b = standing-least s h u i (rw (standing-own s e) b)

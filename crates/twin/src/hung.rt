@@ -9,10 +9,14 @@ use crate::tally::Tally;
 use crate::tally::note;
 use crate::turns::Word;
 use crate::turns::blocks;
+use crate::turns::is_reversed;
 use crate::turns::is_turn;
-use crate::turns::is_turned_by;
+use crate::turns::is_turn_at;
 use crate::turns::least_turn;
-use crate::turns::turned_by;
+use crate::turns::places;
+use crate::turns::turn_at;
+use crate::turns::turns;
+use endless::stand::Stood;
 use endless::stand::stand;
 use papers::same_paper;
 
@@ -46,26 +50,37 @@ fn standing_agrees(stock: &[u16], first: &[u8], second: &[u8]) -> bool {
     asked.same == same(&stood(stock, first), &stood(stock, second))
 }
 
-fn stand_agrees(stock: &[u16], strip: &[u8], work: &mut [u8]) -> bool {
-    let turn = least_turn(strip);
-    copy(work, strip);
-    let stood = stand(stock, work);
-    if stood.turn != turn as u64 {
+// Whether an answer is the turn at an index of the row of a strip, and no refusal.
+fn answer_agrees(stood: Stood, strip: &[u8], i: usize) -> bool {
+    if stood.turn != places(strip, i) as u64 {
         return false;
     }
-    if !is_turned_by(strip, work, turn) {
+    if stood.reversed != is_reversed(strip, i) {
         return false;
     }
     let refusal = stood.refusal;
     is(refusal, 0)
 }
 
-// Standing a strip that stands turns it by no place, and leaves it.
+fn stand_agrees(stock: &[u16], strip: &[u8], work: &mut [u8]) -> bool {
+    let due = least_turn(strip);
+    copy(work, strip);
+    let stood = stand(stock, work);
+    if !is_turn_at(strip, work, due) {
+        return false;
+    }
+    answer_agrees(stood, strip, due)
+}
+
+// Standing a strip that stands reverses nothing, turns it by no place, and leaves it.
 fn again_agrees(stock: &[u16], strip: &[u8], work: &mut [u8]) -> bool {
     let before = stood(stock, strip);
     copy(work, &before);
     let stood = stand(stock, work);
     if stood.turn != 0 {
+        return false;
+    }
+    if stood.reversed {
         return false;
     }
     if !same(work, blocks(&before, strip.len())) {
@@ -84,17 +99,18 @@ fn compare_pair(tally: &mut Tally, stock: &[u16], first: &[u8], second: &[u8]) {
     );
 }
 
-fn compare_turn(tally: &mut Tally, stock: &[u16], strip: &[u8], t: usize) {
-    let turn = turned_by(strip, t);
+fn compare_turn(tally: &mut Tally, stock: &[u16], strip: &[u8], i: usize) {
+    let turn = turn_at(strip, i);
     compare_pair(tally, stock, strip, blocks(&turn, strip.len()));
 }
 
 // A strip with each of its turns.
 fn compare_turns(tally: &mut Tally, stock: &[u16], strip: &[u8]) {
-    let mut t: usize = 0;
-    while t < strip.len() {
-        compare_turn(tally, stock, strip, t);
-        t += 1;
+    let many = turns(strip);
+    let mut i: usize = 0;
+    while i < many {
+        compare_turn(tally, stock, strip, i);
+        i += 1;
     }
 }
 

@@ -1,9 +1,9 @@
 // Builds whole books by the rule of document 01 itself, for every stock of up to 7 blocks in which each kind has blocks, and for those of up to 4
 // blocks also with a kind without blocks before some of the kinds, and compares them number by number with what the calls answer. Words and strips are
 // listed one after the other: nothing is ranked, and no strip is moved to get the next one. The dictionary of a stock is its book, sorted by comparing
-// strips block by block. The turns of a strip are written down one after the other, and the next paper is looked for in the sorted book. For stocks of up
-// to 4 blocks every strip is compared with every other, and press sheets are made from the strips of the book, cut and spoiled, and compared with what is
-// rebuilt of them.
+// strips block by block. The turns of a strip, as it stands and read backwards, are written down one after the other, and the next paper is looked for in
+// the sorted book. For stocks of up to 4 blocks every strip is compared with every other, and press sheets are made from the strips of the book, cut and
+// spoiled, and compared with what is rebuilt of them.
 mod books;
 mod compare;
 mod dictionary;

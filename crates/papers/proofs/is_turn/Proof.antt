@@ -1,31 +1,15 @@
--- `papers::is_turn` meets its contract. The invariant: none of the turns passed is the second strip.
-use Prim.Native.Nat.{_-_}
+-- `papers::is_turn` meets its contract: the strip as it stands, and then foot up.
 use mathlib.Core.Path.{sym, _∙_}
-use native.Mathlib.Omega.{arith}
-use lib.ListN.{length}
-use Rattle.papers.proofs.Turning.{NoTurn, turn-start, turn-on, turn-hit, turn-none}
+use borrow.Author.Needs.{needs}
+use Rattle.papers.proofs.Turning.{turn-there, turn-back}
 use Rattle.papers.proofs.is_turn.Statement.{statement}
 use Rattle.papers.proofs.is_turn.Tie as tie
 
-abbrev Inv-loop : tie.InvT-loop
-Inv-loop first second n t₀ t = NoTurn first second t
+returns : tie.Need-returns
+returns c = turn-there _ _ (sym (c .if1 .taken) ∙ c .before .is-turn-of .ensures)
 
-abbrev μ-loop : tie.MeasureT-loop
-μ-loop first second n t₀ t = length first - t
-
-turned-by-requires : tie.Need-turned-by-requires Inv-loop μ-loop
-turned-by-requires c κs =
-    let p = c .before .before .before .before .pre in
-    (p .0, p .1, omega arith)
-
-returns : tie.Need-returns Inv-loop μ-loop
-returns c = turn-hit _ _ _ (c .before .before .loop-test .taken) (sym (c .if1 .taken) ∙ c .before .turned-by .ensures)
-
-loop-again : tie.Need-loop-again Inv-loop μ-loop
-loop-again c = turn-on _ _ _ (c .before .before .before .loop .inv) (c .before .before .loop-test .taken) (sym (c .if1 .left) ∙ c .before .turned-by .ensures)
-
-returns-2 : tie.Need-returns-2 Inv-loop μ-loop
-returns-2 c = turn-none _ _ _ (c .before .loop .inv) (c .loop-test .left)
+returns-2 : tie.Need-returns-2
+returns-2 c = turn-back _ _ _ (sym (c .before .if1 .left) ∙ c .before .before .is-turn-of .ensures) (c .is-turn-of2 .ensures)
 
 pub is-turn-spec : {M : Type 1} → statement M
-is-turn-spec = tie.close (tie.spec Inv-loop μ-loop (λ c. turn-start _ _) turned-by-requires returns (λ c. omega arith) (λ c. omega arith) loop-again returns-2)
+is-turn-spec = tie.close (tie.spec (λ c κs. search needs) returns (λ c κs. search needs) returns-2)

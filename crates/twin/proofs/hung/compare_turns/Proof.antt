@@ -1,15 +1,14 @@
 -- Proofs. `twin::hung::compare_turns` is safe and ends.
 use Prim.Native.Nat.{_-_}
 use native.Mathlib.Omega.{arith}
-use lib.ListN.{length}
 use Rattle.twin.proofs.hung.compare_turns.Statement.{statement}
 use Rattle.twin.proofs.hung.compare_turns.Tie as tie
 
 abbrev Inv-loop : tie.InvT-loop
-Inv-loop tally₀ stock strip t₀ tally t = Unit {0}
+Inv-loop tally₀ stock strip many i₀ tally i = Unit {0}
 
 abbrev μ-loop : tie.MeasureT-loop
-μ-loop tally₀ stock strip t₀ tally t = length strip - t
+μ-loop tally₀ stock strip many i₀ tally i = many - i
 
 pub compare-turns-spec : {M : Type 1} → statement M
 compare-turns-spec =
@@ -17,6 +16,7 @@ compare-turns-spec =
     (tie.spec
     Inv-loop
     μ-loop
+    (λ c κs. tt)
     (λ c. tt)
     (λ c κs. tt)
     (λ c. omega arith)

@@ -1,15 +1,14 @@
 -- Proofs. `twin::turns::is_turn` is safe and ends.
 use Prim.Native.Nat.{_-_}
 use native.Mathlib.Omega.{arith}
-use lib.ListN.{length}
 use Rattle.twin.proofs.turns.is_turn.Statement.{statement}
 use Rattle.twin.proofs.turns.is_turn.Tie as tie
 
 abbrev Inv-loop : tie.InvT-loop
-Inv-loop first second t₀ t = Unit {0}
+Inv-loop first second many i₀ i = Unit {0}
 
 abbrev μ-loop : tie.MeasureT-loop
-μ-loop first second t₀ t = length first - t
+μ-loop first second many i₀ i = many - i
 
 pub is-turn-spec : {M : Type 1} → statement M
 is-turn-spec =
@@ -17,6 +16,7 @@ is-turn-spec =
     (tie.spec
     Inv-loop
     μ-loop
+    (λ c κs. tt)
     (λ c. tt)
     (λ c κs. tt)
     (λ c. tt)
