@@ -6,6 +6,7 @@
 #include "moves.h"
 #include "pairs.h"
 #include "papers.h"
+#include "replays.h"
 #include "sheets.h"
 
 int main(int count, char **arguments)
@@ -28,5 +29,6 @@ int main(int count, char **arguments)
     print_pairs(works);
     print_papers(works);
     print_sheets(works);
+    print_replays();
     return 0;
 }

@@ -22,7 +22,8 @@
  *   taken, and a bad one is refused. A walker's sixteen bytes are each true or false.
  *   No call keeps a pointer, takes memory or has a state of its own. Every call comes back.
  *   Besides the caller's stack nelfrupi_walk and nelfrupi_drive need up to 11 KiB, for a recursion that is at most 64
- *   deep, and each other call up to 2 KiB. This is measured on the library as it is built now, and is not promised.
+ *   deep, nelfrupi_replay up to 5 KiB, for its flags, and each other call up to 2 KiB. This is measured on the library as
+ *   it is built now, and is not promised.
  *
  * REFUSALS
  *   Each answer says in `refusal` whether the call was accepted (no 0, place 0) or refused (a number of this table, and
@@ -50,6 +51,9 @@
  *   12  a move of a sheet is not the next one, or none is left          the record's first byte, counted from 0
  *   13  the buffer for a sheet has under 83 + 3c bytes for c moves      0
  *   14  the distance is below -2^63, or above 2^63 - 1                  0
+ *   15  T is above 4,096                                                0
+ *   16  a pair has a place outside 1 to n, its places are equal or      the smallest such pair's number, counted from 1
+ *       fall, or half a pair stands at the end
  */
 #ifndef NELFRUPI_H
 #define NELFRUPI_H
@@ -243,6 +247,22 @@ typedef struct {
  * Refused: 1, 2, 3, 4, 5, 6, 10; the strip and the list are then as they were. */
 nelfrupi_ran nelfrupi_run(const uint16_t *stock, size_t kinds, uint8_t *strip, size_t length, nelfrupi_walker walker,
                           bool back, uint8_t *list, size_t list_length);
+
+/* ---- what the press really printed: blocks exchanged by hand, for stocks with T up to 4,096 */
+
+typedef struct {
+    nelfrupi_refusal refusal;
+    uint64_t walked;    /* how many exchanges were the walk's next move on from where the bar then stood */
+    uint64_t different; /* how many different strips stood on the bar, the first one included */
+    uint64_t missing;   /* the smallest number of a strip that never did; T where none is missing */
+} nelfrupi_replayed;
+
+/* Replay: exchanges pairs of blocks one after the other, and leaves the final strip in the lent one. A pair is two bytes,
+ * the places of the two blocks, smaller first, as nelfrupi_run lists them; two blocks of one kind may be exchanged, which
+ * changes nothing. An exchange was the walk's next move on where it made the next strip of the book. No pair is no refusal.
+ * Refused: 1, 2, 3, 4, 5, 6, 15, 16; no exchange is then made, and the strip is as it was. */
+nelfrupi_replayed nelfrupi_replay(const uint16_t *stock, size_t kinds, uint8_t *strip, size_t length,
+                                  const uint8_t *pairs, size_t pairs_length);
 
 /* ---- press sheets, also where T is 2^64 or more
  *

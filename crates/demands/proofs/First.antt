@@ -71,6 +71,11 @@ use Rattle.running.specs.Answers.{runAnswer}
 use Rattle.running.proofs.Theorems.{run-right}
 use Rattle.running.proofs.run.run.Kinds as run
 use Rattle.running.proofs.run.run.Reads as run-reads
+use Rattle.replaying.specs.declared.replay.Replayed.{Replayed}
+use Rattle.replaying.specs.Answers.{replayNos, replayAnswer}
+use Rattle.replaying.proofs.Theorems.{replay-right}
+use Rattle.replaying.proofs.replay.replay.Kinds as replay
+use Rattle.replaying.proofs.replay.replay.Reads as replay-reads
 use Rattle.papers.specs.declared.Asked.{Asked}
 use Rattle.papers.specs.Papers.{samePaperAnswer}
 use Rattle.papers.proofs.Theorems.{refused-no}
@@ -209,6 +214,13 @@ pub run-refuses : (κs : Lfts 3) (a : Dens κs run.ps) (r : Ran) (s : AtExit (en
     ((r .moves ≡ 0) × (r .ended ≡ false) × (r .walker ≡ a .1 .1 .0) × (s .1 .0 .now ≡ a .1 .0 .now) × (s .1 .1 .1 .1 .0 .now ≡ a .1 .1 .1 .1 .0 .now))
 unfolding runAnswer
 run-refuses κs a r s h = record { named = ap (λ (r : Ran). r .refusal) (h .0); left = run-right κs a r s h .refused }
+
+-- ---- Replay: 1 to 6, 15, 16. The strip stays
+
+pub replay-refuses : (κs : Lfts 3) (a : Dens κs replay.ps) (r : Replayed) (s : AtExit (endedOf 3 replay.ps replay.r) κs) → replay-reads.Post κs a r s
+    → Refuses (replayNos (a .0 .now) (a .1 .0 .now) (a .1 .1 .0 .now)) (r .refusal) ((r .walked ≡ 0) × (r .different ≡ 0) × (r .missing ≡ 0) × (s .1 .0 .now ≡ a .1 .0 .now))
+unfolding replayAnswer
+replay-refuses κs a r s h = record { named = ap (λ (r : Replayed). r .refusal) (h .0); left = replay-right κs a r s h .kept }
 
 -- ---- Same paper: as Which
 

@@ -9,4 +9,5 @@ pub mod Coffee
 pub mod SortingTable
 pub mod EndlessPapers
 pub mod FootUp
+pub mod ReallyPrinted
 pub mod Outcomes

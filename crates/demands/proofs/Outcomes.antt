@@ -11,6 +11,7 @@ pub use Rattle.measuring.proofs.Theorems.{distance-one-outcome}
 pub use Rattle.walker.proofs.Theorems.{one-outcome as open-one-outcome}
 pub use Rattle.walking.proofs.Theorems.{walk-one-outcome}
 pub use Rattle.running.proofs.Theorems.{run-one-outcome}
+pub use Rattle.replaying.proofs.Theorems.{one-outcome as replay-one-outcome}
 pub use Rattle.exports.proofs.Theorems.{drive-is, drive-one-outcome}
 pub use Rattle.papers.proofs.Theorems.{one-outcome as same-paper-one-outcome}
 pub use Rattle.endless.proofs.Theorems.{stand-one-outcome, next-paper-one-outcome}
@@ -22,5 +23,5 @@ pub use Rattle.exports.proofs.Outcomes.{dictionary-number-one-outcome-for-c, di
 pub use Rattle.exports.proofs.Outcomes.{to-dictionary-one-outcome-for-c, to-book-one-outcome-for-c}
 pub use Rattle.exports.proofs.Outcomes.{which-one-outcome-for-c, distance-one-outcome-for-c, same-paper-one-outcome-for-c}
 pub use Rattle.exports.proofs.Outcomes.{stand-one-outcome-for-c, next-paper-one-outcome-for-c}
-pub use Rattle.exports.proofs.Outcomes.{open-one-outcome-for-c, walk-one-outcome-for-c, run-one-outcome-for-c}
+pub use Rattle.exports.proofs.Outcomes.{open-one-outcome-for-c, walk-one-outcome-for-c, run-one-outcome-for-c, replay-one-outcome-for-c}
 pub use Rattle.exports.proofs.Outcomes.{write-sheet-one-outcome-for-c, read-sheet-one-outcome-for-c, rebuild-one-outcome-for-c}

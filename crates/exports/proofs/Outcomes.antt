@@ -12,6 +12,7 @@ use Rattle.measuring.proofs.Theorems.{distance-one-outcome}
 use Rattle.walker.proofs.Theorems.{one-outcome as open-one-outcome}
 use Rattle.walking.proofs.Theorems.{walk-one-outcome}
 use Rattle.running.proofs.Theorems.{run-one-outcome}
+use Rattle.replaying.proofs.Theorems.{one-outcome as replay-one-outcome}
 use Rattle.papers.proofs.Theorems.{one-outcome as same-paper-one-outcome}
 use Rattle.endless.proofs.Theorems.{stand-one-outcome, next-paper-one-outcome}
 use Rattle.writing.proofs.Theorems.{one-outcome as write-sheet-one-outcome}
@@ -45,6 +46,8 @@ use Rattle.exports.proofs.nelfrupi_walk.Kinds as walk
 use Rattle.exports.proofs.nelfrupi_walk.Reads as walk-reads
 use Rattle.exports.proofs.nelfrupi_run.Kinds as run
 use Rattle.exports.proofs.nelfrupi_run.Reads as run-reads
+use Rattle.exports.proofs.nelfrupi_replay.Kinds as replay
+use Rattle.exports.proofs.nelfrupi_replay.Reads as replay-reads
 use Rattle.exports.proofs.nelfrupi_same_paper.Kinds as same-paper
 use Rattle.exports.proofs.nelfrupi_same_paper.Reads as same-paper-reads
 use Rattle.exports.proofs.nelfrupi_stand.Kinds as stand
@@ -99,6 +102,9 @@ walk-one-outcome-for-c = walk-one-outcome
 
 pub run-one-outcome-for-c : OneOutcome 3 run.ps run.r {C = List ℕ × List ℕ} (λ κs s. (s .1 .0 .now, s .1 .1 .1 .1 .0 .now)) run-reads.Post
 run-one-outcome-for-c = run-one-outcome
+
+pub replay-one-outcome-for-c : OneOutcome 3 replay.ps replay.r (λ κs s. s .1 .0 .now) replay-reads.Post
+replay-one-outcome-for-c = replay-one-outcome
 
 pub same-paper-one-outcome-for-c : OneAnswer 3 same-paper.ps same-paper.r same-paper-reads.Post
 same-paper-one-outcome-for-c = same-paper-one-outcome

@@ -27,6 +27,8 @@ use papers::same_paper;
 use reading::reader::read_sheet;
 use rebuilding::Rebuilt;
 use rebuilding::rebuild::rebuild;
+use replaying::replay::Replayed;
+use replaying::replay::replay;
 use running::run::Ran;
 use running::run::run;
 use sheets::Written;
@@ -47,6 +49,7 @@ ghost use Rattle.measuring.specs.Answers.{distanceAnswer};
 ghost use Rattle.walker.specs.Answers.{openAnswer};
 ghost use Rattle.walking.specs.Answers.{moveAnswer, moveStrip};
 ghost use Rattle.running.specs.Answers.{runAnswer, runStrip, runList};
+ghost use Rattle.replaying.specs.Answers.{replayAnswer, replayAfter};
 ghost use Rattle.papers.specs.Papers.{samePaperAnswer};
 ghost use Rattle.endless.specs.Answers.{standAnswer, standAfter, nextPaperAnswer, nextPaperAfter};
 ghost use Rattle.sheets.specs.Writing.{writeAnswer, writeSheet};
@@ -164,6 +167,13 @@ pub extern "C" fn nelfrupi_run(
     ensures { λ r. ⌜ (r ≡ runAnswer back (now (stock .entry)) (now (strip .entry)) walker (now (list .entry))) × (now (strip .exit) ≡ runStrip back (now (stock .entry)) (now (strip .entry)) walker (now (list .entry))) × (now (list .exit) ≡ runList back (now (stock .entry)) (now (strip .entry)) walker (now (list .entry))) ⌝ }
 {
     run(stock, strip, walker, back, list)
+}
+
+#[no_mangle]
+pub extern "C" fn nelfrupi_replay(stock: &[u16], strip: &mut [u8], pairs: &[u8]) -> Replayed
+    ensures { λ r. ⌜ (r ≡ replayAnswer (now (stock .entry)) (now (strip .entry)) (now (pairs .entry))) × (now (strip .exit) ≡ replayAfter (now (stock .entry)) (now (strip .entry)) (now (pairs .entry))) ⌝ }
+{
+    replay(stock, strip, pairs)
 }
 
 #[no_mangle]

@@ -4,30 +4,17 @@ use mathlib.Core.Path.{_≡_, refl, sym, _∙_}
 use mathlib.Core.Bool.{Bool, true, false, _&&_, false≢true}
 use mathlib.Core.List.{List, [], _∷_}
 use native.Mathlib.Decide.{ℕ-discrete}
-use native.Mathlib.Omega.{arith}
 use borrow.Author.Tests.{eq-eqb, ne-eqb}
 use lib.Dec.{eqb}
-use lib.ListN.{List·getD-eq-default}
-use Rattle.rules.specs.Stock.{IsStrip}
-use Rattle.rules.specs.Book.{book, same}
-use Rattle.rules.specs.Neighbours.{places, differFrom}
-use Rattle.rules.proofs.Places.{place-below, book-size}
+use Rattle.rules.specs.Book.{same}
+use Rattle.rules.specs.Neighbours.{places}
+use Rattle.rules.proofs.Neighbours.{no-places}
 use Rattle.walker.specs.declared.Walker.{Walker}
 use Rattle.walking.specs.declared.Moved.{Moved}
-use Rattle.walking.specs.Answers.{along, leftAlong, onward, left}
+use Rattle.walking.specs.Answers.{onward}
 use Rattle.walking.specs.Checked.{Checked, stepAnswer, stepStrip}
-use Rattle.walking.proofs.Along.{none-left}
+use Rattle.walking.proofs.Along.{past-last, none-left}
 use Rattle.walking.proofs.Stepped.{Step, step-refused, step-made}
-
--- after the last strip there is none
-pub past-last : (counts s : List ℕ) → IsStrip counts s → left counts s ≡ 0 → onward counts s 1 ≡ []
-unfolding along leftAlong
-past-last counts s h e = List·getD-eq-default (book counts) [] (omega (arith, book-size counts, place-below counts s h))
-
-pub no-places : (p : ℕ) (s : List ℕ) → differFrom p s [] ≡ []
-unfolding differFrom
-no-places p [] = refl
-no-places p (x ∷ s) = refl
 
 -- ---- the test
 

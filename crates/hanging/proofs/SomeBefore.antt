@@ -7,7 +7,8 @@ use native.Mathlib.Decide.{decLt}
 use native.Mathlib.Omega.{arith}
 use lib.ListN.{length, getD}
 use Rattle.rules.specs.Book.{turn}
-use Rattle.papers.specs.Papers.{turned, turnsOf, hung, some}
+use Rattle.searching.specs.Searching.{some}
+use Rattle.papers.specs.Papers.{turned, turnsOf, hung}
 use Rattle.papers.specs.Blocks.{blockAt}
 use Rattle.papers.proofs.Turning.{hung-length, turned-none, some-turn, no-turn, which-turn}
 use Rattle.dictionary.specs.Dictionary.{before}

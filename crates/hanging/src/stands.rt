@@ -4,7 +4,8 @@ ghost use Prim.Native.Nat.{_≤_, _<_};
 ghost use mathlib.Core.Path.{_≡_};
 ghost use mathlib.Core.Bool.{true, false};
 ghost use lib.ListN.{length};
-ghost use Rattle.papers.specs.Papers.{turnsOf, hung, some};
+ghost use Rattle.searching.specs.Searching.{some};
+ghost use Rattle.papers.specs.Papers.{turnsOf, hung};
 ghost use Rattle.dictionary.specs.Dictionary.{before};
 ghost use Rattle.standing.specs.Standing.{isStanding};
 

@@ -1,7 +1,7 @@
 -- Proofs. A strip turned round, block by block, and the search for a turn.
 use Prim.Native.Nat.{ℕ, zero, suc, _+_, _-_, _%_, _≤_, _<_}
 use mathlib.Core.Path.{_≡_, refl, sym, ap, _∙_}
-use mathlib.Core.Bool.{Bool, true, false, false≢true, or-true, or-assoc, _||_}
+use mathlib.Core.Bool.{Bool, true, false, or-true, _||_}
 use mathlib.Core.List.{List, [], _∷_, _++_, reverse, reverse-reverse, append-nil}
 use native.Mathlib.Decide.{decLt, ℕ-discrete}
 use native.Mathlib.Nat.{mod-lt, mod-eq-of-lt, mod-eq-sub-mod}
@@ -11,7 +11,9 @@ use lib.Seq.{getD-at, getD-append-add, getD-drop, getD-take, ext-getD}
 use Rattle.rules.specs.Book.{turn, same}
 use Rattle.rules.proofs.Listed.{getD-map′, getD-reverse, length-turn, flip, flip-self}
 use Rattle.rules.proofs.Places.{same-self, same-not, same-true}
-use Rattle.papers.specs.Papers.{turned, upTo, turnsOf, hung, turns, some, isTurn}
+use Rattle.searching.specs.Searching.{some, isAmong}
+use Rattle.searching.proofs.Some.{some-hit, some-none, some-where, some-append}
+use Rattle.papers.specs.Papers.{turned, upTo, turnsOf, hung, turns, isTurn}
 use Rattle.papers.specs.Blocks.{blockAt}
 
 -- ---- a strip turned by t places
@@ -114,35 +116,6 @@ pub turns-of-at : (s : List ℕ) (t : ℕ) → t < length s → getD (turnsOf s)
 unfolding turnsOf
 turns-of-at s t h = getD-map′ (λ t. turned t s) (upTo (length s)) t 0 [] (omega (arith, length-upto (length s))) ∙ ap (λ (t : ℕ). turned t s) (getD-upto (length s) t h)
 
--- ---- some strip of a list
-
-module _ (test : List ℕ → Bool) where
-  pub some-hit : (l : List (List ℕ)) (i : ℕ) → i < length l → test (getD l i []) ≡ true → some test l ≡ true
-  unfolding some
-  some-hit [] i h e = absurd (omega arith)
-  some-hit (s ∷ l) zero h e = rw e
-  some-hit (s ∷ l) (suc i) h e = rw (some-hit l i (omega arith) e, or-true (test s))
-
-  pub some-none : (l : List (List ℕ)) → ((i : ℕ) → i < length l → test (getD l i []) ≡ false) → some test l ≡ false
-  unfolding some
-  some-none [] h = refl
-  some-none (s ∷ l) h = rw (h 0 (omega arith), some-none l (λ i k. h (suc i) (omega arith)))
-
-  pub some-where : (l : List (List ℕ)) → some test l ≡ true → (i : ℕ) × (i < length l) × (test (getD l i []) ≡ true)
-  unfolding some
-  some-where [] h = absurd (false≢true h)
-  some-where (s ∷ l) h = go (test s) refl h (some-where l)
-    where
-      go : (b : Bool) → test s ≡ b → b || some test l ≡ true → (some test l ≡ true → (i : ℕ) × (i < length l) × (test (getD l i []) ≡ true))
-          → (i : ℕ) × (i < suc (length l)) × (test (getD (s ∷ l) i []) ≡ true)
-      go true e k rest = (0, omega arith, e)
-      go false e k rest = let w = rest k in (suc (w .0), omega (arith, w .1), w .2)
-
-  pub some-append : (l m : List (List ℕ)) → some test (l ++ m) ≡ some test l || some test m
-  unfolding some
-  some-append [] m = refl
-  some-append (s ∷ l) m = rw (some-append l m) (sym (or-assoc (test s) (some test l) (some test m)))
-
 -- ---- some turn of a strip as it hangs
 
 module _ (test : List ℕ → Bool) (s : List ℕ) (back : Bool) where
@@ -180,10 +153,10 @@ module _ (s : List ℕ) (back : Bool) (u : List ℕ) (t : ℕ) where
   pub turn-on : NoTurn s back u t → t < length s → false ≡ same (turned t (hung back s)) u → NoTurn s back u (t + 1)
   turn-on n l e = record { passed = omega arith; none = λ i m. elim (ℕ-discrete i t) [ yes f ↦ rw f (sym e) | no f ↦ n .none i (omega arith) ] }
 
-  pub turn-hit : t < length s → true ≡ same (turned t (hung back s)) u → true ≡ some (λ v. same v u) (turnsOf (hung back s))
+  pub turn-hit : t < length s → true ≡ same (turned t (hung back s)) u → true ≡ isAmong (turnsOf (hung back s)) u
   turn-hit l e = sym (some-turn (λ v. same v u) s back t l (sym e))
 
-  pub turn-none : NoTurn s back u t → length s ≤ t → false ≡ some (λ v. same v u) (turnsOf (hung back s))
+  pub turn-none : NoTurn s back u t → length s ≤ t → false ≡ isAmong (turnsOf (hung back s)) u
   turn-none n l = sym (no-turn (λ v. same v u) s back (λ i k. n .none i (omega arith)))
 
 -- ---- the turns of a strip as it stands, and then foot up
@@ -191,7 +164,7 @@ module _ (s : List ℕ) (back : Bool) (u : List ℕ) (t : ℕ) where
 module _ (s u : List ℕ) where
   -- whether the other strip is a turn of it, as it hangs
   abbrev Turns : Bool → Bool
-  Turns back = some (λ v. same v u) (turnsOf (hung back s))
+  Turns back = isAmong (turnsOf (hung back s)) u
 
   either-way : isTurn s u ≡ Turns false || Turns true
   unfolding isTurn turns turn

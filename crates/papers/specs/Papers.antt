@@ -1,11 +1,12 @@
 -- TO BE BELIEVED. Document 01, Same paper, as document 02, P8, has it: a strip turned round by some number of places, as it stands or read backwards.
 use Prim.Native.Nat.{ℕ, zero, suc}
-use mathlib.Core.Bool.{Bool, false, _||_}
+use mathlib.Core.Bool.{Bool, false}
 use mathlib.Core.List.{List, [], _∷_, _++_, map, reverse}
 use lib.ListN.{length, take, drop}
-use Rattle.rules.specs.Book.{turn, same}
+use Rattle.rules.specs.Book.{turn}
 use Rattle.rules.specs.Refusals.{No, answer, pairNos}
 use Rattle.stock.specs.Refused.{refusal}
+use Rattle.searching.specs.Searching.{isAmong}
 use Rattle.papers.specs.declared.Asked.{Asked}
 
 -- a strip turned by t places: its first t blocks in order to the end
@@ -31,14 +32,9 @@ unfoldable pub turns : List ℕ → List (List ℕ)
 unfolding turnsOf
 turns s = turnsOf s ++ turnsOf (reverse s)
 
--- whether a test holds of some strip of a list
-unfoldable pub some : (List ℕ → Bool) → List (List ℕ) → Bool
-some test [] = false
-some test (s ∷ l) = test s || some test l
-
 -- whether u is one of the turns of s
 unfoldable pub isTurn : List ℕ → List ℕ → Bool
-isTurn s u = some (λ t. same t u) (turns s)
+isTurn s u = isAmong (turns s) u
 
 -- ---- Same paper: refusals 1 to 3, then 4 to 6 of the first strip, then of the second
 

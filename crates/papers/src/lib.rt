@@ -8,7 +8,8 @@ ghost use Prim.Native.Nat.{_≤_, _<_};
 ghost use mathlib.Core.Path.{_≡_};
 ghost use lib.ListN.{length};
 ghost use Rattle.rules.specs.Book.{same};
-ghost use Rattle.papers.specs.Papers.{turned, turnsOf, hung, some, isTurn, samePaperAnswer};
+ghost use Rattle.searching.specs.Searching.{isAmong};
+ghost use Rattle.papers.specs.Papers.{turned, turnsOf, hung, isTurn, samePaperAnswer};
 
 // What Same paper answers.
 #[repr(C)]
@@ -36,7 +37,7 @@ fn turned_by(first: &[u8], back: bool, second: &[u8], t: usize) -> bool
 // Whether the second strip is the first, hung foot up or not, turned by some number of places.
 fn is_turn_of(first: &[u8], back: bool, second: &[u8]) -> bool
     requires { ⌜ (length (now first) ≡ length (now second)) × (length (now first) ≤ 64) ⌝ }
-    ensures { λ r. ⌜ r ≡ some (λ t. same t (now (second .entry))) (turnsOf (hung back (now (first .entry)))) ⌝ }
+    ensures { λ r. ⌜ r ≡ isAmong (turnsOf (hung back (now (first .entry)))) (now (second .entry)) ⌝ }
 {
     let n = first.len();
     let mut t = 0;

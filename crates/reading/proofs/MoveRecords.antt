@@ -10,13 +10,13 @@ use Rattle.rules.specs.Stock.{IsStrip}
 use Rattle.rules.specs.Book.{same}
 use Rattle.rules.specs.Neighbours.{places}
 use Rattle.rules.specs.Refusals.{fine}
+use Rattle.rules.proofs.Neighbours.{no-places}
 use Rattle.rules.proofs.Places.{same-self, same-true}
 use Rattle.walking.specs.Answers.{onward, left}
-use Rattle.walking.proofs.Along.{two-places, along-none, along-strip, along-left, along-further}
+use Rattle.walking.proofs.Along.{past-last, two-places, along-none, along-strip, along-left, along-further}
 use Rattle.sheets.specs.Sheets.{moveRecords}
 use Rattle.following.specs.Following.{Followed, refusedAt, oneMore, ended, ifNext, follow}
 use Rattle.following.proofs.Steps.{not-move, short-move, whole-move}
-use Rattle.following.proofs.Next.{past-last, no-places}
 
 module _ (counts s : List ℕ) (h : IsStrip counts s) (some : 1 ≤ left counts s) where
   -- from the next strip it is one number less

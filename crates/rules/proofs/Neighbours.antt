@@ -46,6 +46,12 @@ differ-sym k (x ∷ s) (y ∷ t) = elim (ℕ-discrete x y) [
   | no e ↦ rw (ne-eqb x y e, ne-eqb y x (λ f. e (sym f))) (ap (λ (l : List ℕ). k ∷ l) (differ-sym (suc k) s t))
 ]
 
+-- from no strip at none
+pub no-places : (p : ℕ) (s : List ℕ) → differFrom p s [] ≡ []
+unfolding differFrom
+no-places p [] = refl
+no-places p (x ∷ s) = refl
+
 pub places-sym : (s t : List ℕ) → places s t ≡ places t s
 places-sym s t = differ-sym 1 s t
 

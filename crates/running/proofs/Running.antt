@@ -11,7 +11,7 @@ use lib.ListN.{length, drop, set, length-append, length-drop}
 use lib.Seq.{drop-cons, set-at}
 use Rattle.rules.specs.Stock.{IsStock, IsStrip}
 use Rattle.rules.specs.Refusals.{fine}
-use Rattle.rules.proofs.Exchange.{swap}
+use Rattle.rules.specs.Neighbours.{swap}
 use Rattle.rules.proofs.Strips.{moveOf}
 use Rattle.walker.specs.declared.Walker.{Walker}
 use Rattle.walker.specs.Walkers.{walkerOf}

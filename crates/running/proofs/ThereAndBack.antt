@@ -37,11 +37,11 @@ pub record Undone (s : List ℕ) (w : Walker) (x : Ran) (there : List ℕ) (room
 
 -- where a run comes to, and the moves that it lists
 module _ (d : Bool) (counts s : List ℕ) (w : Walker) (list₀ : List ℕ) (r : Ran) (t list : List ℕ) (is : RunRight d counts s w list₀ r t list) (z : r .refusal .no ≡ 0) where
-  comes-to : t ≡ along d counts s (r .moves)
+  pub comes-to : t ≡ along d counts s (r .moves)
   unfolding along
   comes-to = rw (← is .number z .1) (sym (place-undone counts t (is .strip z .0)))
 
-  lists : IsStrip counts s → take (2 * r .moves) list ≡ movesFrom d counts s (r .moves)
+  pub lists : IsStrip counts s → take (2 * r .moves) list ≡ movesFrom d counts s (r .moves)
   lists h = rw (is .listed z) (take-at (movesFrom d counts s (r .moves)) _ (2 * r .moves) (moves-long d counts s h (r .moves) (is .number z .0)))
 
 module _ (d : Bool) (counts s : List ℕ) (w : Walker) (own : length (w .back) ≡ 16) (list₀ : List ℕ) (x : Ran) (t there : List ℕ)

@@ -13,6 +13,15 @@ module _ (test : List ℕ → Bool) where
   abbrev pub Fail : List (List ℕ) → ℕ → Type 0
   Fail l m = (i : ℕ) → i < m → test (getD l i []) ≡ false
 
+  pub passed-over-within : (l : List (List ℕ)) → passedOver test l ≤ length l
+  unfolding passedOver
+  passed-over-within [] = omega arith
+  passed-over-within (s ∷ l) = go (test s) (passed-over-within l)
+    where
+      go : (b : Bool) → passedOver test l ≤ length l → ahead b (passedOver test l) ≤ suc (length l)
+      go true h = omega arith
+      go false h = omega arith
+
   -- all that are passed over fail
   pub passed-over-fail : (l : List (List ℕ)) → Fail l (passedOver test l)
   unfolding passedOver

@@ -1,11 +1,11 @@
 -- TO BE BELIEVED. Document 02, P7: from a strip, the next later strip of a list that passes a test, within a given number of steps along the list;
--- and all that pass.
+-- all that pass; and whether some strip of a list does, or is a given one.
 use Prim.Native.Nat.{ℕ, suc, min, _+_}
-use mathlib.Core.Bool.{Bool, cond}
+use mathlib.Core.Bool.{Bool, false, cond, _||_}
 use mathlib.Core.List.{List, [], _∷_}
 use lib.Dec.{ltb, leb}
 use lib.ListN.{length, getD, drop}
-use Rattle.rules.specs.Book.{ahead, placeIn}
+use Rattle.rules.specs.Book.{same, ahead, placeIn}
 use Rattle.rules.specs.Refusals.{pick}
 
 -- the strips of a list that come later than s: the first of them is one step on
@@ -37,3 +37,12 @@ foundOr test l given s = cond (isFound test l given) (getD l (passedOver test l)
 unfoldable pub passing : (List ℕ → Bool) → List (List ℕ) → List (List ℕ)
 passing test [] = []
 passing test (s ∷ l) = cond (test s) (s ∷ passing test l) (passing test l)
+
+-- whether a test holds of some strip of a list
+unfoldable pub some : (List ℕ → Bool) → List (List ℕ) → Bool
+some test [] = false
+some test (s ∷ l) = test s || some test l
+
+-- whether a strip is among those of a list
+abbrev pub isAmong : List (List ℕ) → List ℕ → Bool
+isAmong l s = some (λ t. same t s) l

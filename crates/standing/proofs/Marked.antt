@@ -4,7 +4,8 @@ use mathlib.Core.Path.{_≡_, refl}
 use mathlib.Core.Bool.{Bool, true, false}
 use mathlib.Core.List.{List, [], _∷_}
 use Rattle.rules.specs.Book.{turn, same, placeIn}
-use Rattle.papers.specs.Papers.{turned, upTo, turnsOf, turns, some}
+use Rattle.searching.specs.Searching.{some}
+use Rattle.papers.specs.Papers.{turned, upTo, turnsOf, turns}
 use Rattle.dictionary.specs.Dictionary.{before}
 use Rattle.standing.specs.Standing.{smallestOf, standing, isReversed, turnOf, isStanding}
 

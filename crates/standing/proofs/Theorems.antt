@@ -6,9 +6,10 @@ use mathlib.Core.List.{List, [], reverse}
 use native.Mathlib.Omega.{arith}
 use lib.ListN.{length, getD, length-reverse}
 use Rattle.rules.specs.Stock.{IsStrip}
-use Rattle.rules.specs.Book.{turn, same, placeIn}
+use Rattle.rules.specs.Book.{turn, placeIn}
 use Rattle.rules.proofs.Places.{same-self, same-true}
-use Rattle.papers.specs.Papers.{turned, turnsOf, hung, turns, some, isTurn}
+use Rattle.searching.specs.Searching.{isAmong}
+use Rattle.papers.specs.Papers.{turned, turnsOf, hung, turns, isTurn}
 use Rattle.papers.proofs.Turning.{length-turns-of, turns-of-at, hung-length}
 use Rattle.dictionary.specs.Dictionary.{dictionary}
 use Rattle.dictionary.proofs.Order.{Before, Ordered, less, equal, more, ordered, true-before}
@@ -49,10 +50,10 @@ module _ (s : List ℕ) (h : 0 < length s) where
   -- so read, one of its turns is
   standing-hung : In (standing s) (turnsOf (hung (isReversed s) s))
   unfolding isReversed turn
-  standing-hung = go (some (λ t. same t (standing s)) (turnsOf s)) refl (in-turn s (standing s) standing-in)
+  standing-hung = go (isAmong (turnsOf s) (standing s)) refl (in-turn s (standing s) standing-in)
     where
-      go : (b : Bool) → some (λ t. same t (standing s)) (turnsOf s) ≡ b → (back : Bool) × (t : ℕ) × (t < length s) × (turned t (hung back s) ≡ standing s)
-          → In (standing s) (turnsOf (hung (not (some (λ t. same t (standing s)) (turnsOf s))) s))
+      go : (b : Bool) → isAmong (turnsOf s) (standing s) ≡ b → (back : Bool) × (t : ℕ) × (t < length s) × (turned t (hung back s) ≡ standing s)
+          → In (standing s) (turnsOf (hung (not (isAmong (turnsOf s) (standing s))) s))
       go true e w = rw e (some-in (standing s) (turnsOf s) e)
       go false e (false, t, l, f) = absurd (false≢true (sym e ∙ in-some (standing s) (turnsOf s) (rw f at (turn-of-in s t l))))
       go false e (true, t, l, f) = rw e (rw f at (turn-of-in (reverse s) t (omega (arith, length-reverse s))))

@@ -1,5 +1,5 @@
 -- Proofs. The turns of a strip, as it stands and foot up: each is a turn of each other. What is proved of standing strips leans on `turns-self` to `turns-strip` alone.
-use Prim.Native.Nat.{ℕ, _+_, _-_, _<_}
+use Prim.Native.Nat.{ℕ, _+_, _<_}
 use mathlib.Core.Path.{_≡_, refl, sym, ap, _∙_}
 use mathlib.Core.Bool.{Bool, true, false}
 use mathlib.Core.List.{List, [], _∷_, _++_, reverse-append, reverse, append-nil, append-assoc}
@@ -11,8 +11,10 @@ use Rattle.rules.specs.Stock.{count, IsStrip}
 use Rattle.rules.specs.Book.{turn, same}
 use Rattle.rules.proofs.Listed.{flip}
 use Rattle.rules.proofs.Places.{same-self, same-true}
-use Rattle.papers.specs.Papers.{turned, turnsOf, hung, turns, some, isTurn}
-use Rattle.papers.proofs.Turning.{length-turns-of, turns-of-at, some-hit, some-where, hung-length, hung-hung, hung-twice, hung-turn, turn-hung}
+use Rattle.searching.specs.Searching.{isAmong}
+use Rattle.searching.proofs.Some.{some-hit, some-where}
+use Rattle.papers.specs.Papers.{turned, turnsOf, hung, turns, isTurn}
+use Rattle.papers.proofs.Turning.{length-turns-of, turns-of-at, hung-length, hung-hung, hung-twice, hung-turn, turn-hung}
 use Rattle.dictionary.proofs.Sorted.{Strips, In, in-at, at-in}
 use Rattle.dictionary.proofs.Amounts.{Kinds, Same, count-append, count-reverse, kinds-append, append-kinds, kinds-reverse}
 use Rattle.dictionary.proofs.Places.{same-strip, strip-kinds}
@@ -139,12 +141,12 @@ hung-kinds k true s h = kinds-reverse k s h
 
 -- ---- a list of strips, and whether one is in it
 
-pub some-in : (u : List ℕ) (l : Strips) → some (λ t. same t u) l ≡ true → In u l
+pub some-in : (u : List ℕ) (l : Strips) → isAmong l u ≡ true → In u l
 some-in u l h =
     let w = some-where (λ t. same t u) l h in
     at-in u l (w .0) (w .1) (same-true (getD l (w .0) []) u (w .2))
 
-pub in-some : (u : List ℕ) (l : Strips) → In u l → some (λ t. same t u) l ≡ true
+pub in-some : (u : List ℕ) (l : Strips) → In u l → isAmong l u ≡ true
 in-some u l h =
     let w = in-at u l h in
     some-hit (λ t. same t u) l (w .0) (w .1) (rw (w .2) (same-self u))

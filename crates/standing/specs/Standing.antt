@@ -3,7 +3,8 @@ use Prim.Native.Nat.{ℕ}
 use mathlib.Core.Bool.{Bool, not, cond}
 use mathlib.Core.List.{List, [], _∷_}
 use Rattle.rules.specs.Book.{same, placeIn}
-use Rattle.papers.specs.Papers.{turnsOf, hung, turns, some}
+use Rattle.searching.specs.Searching.{isAmong}
+use Rattle.papers.specs.Papers.{turnsOf, hung, turns}
 use Rattle.dictionary.specs.Dictionary.{before}
 
 -- the smallest in dictionary order of s and the strips of a list
@@ -19,7 +20,7 @@ standing s = smallestOf s (turns s)
 -- whether s is read backwards to have it: only where it is no turn of s as it stands
 unfoldable pub isReversed : List ℕ → Bool
 unfolding standing
-isReversed s = not (some (λ t. same t (standing s)) (turnsOf s))
+isReversed s = not (isAmong (turnsOf s) (standing s))
 
 -- the smallest number of places to turn s by, so read, to have it: how many turns come ahead of it
 unfoldable pub turnOf : List ℕ → ℕ

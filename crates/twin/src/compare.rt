@@ -3,10 +3,11 @@ use crate::filed::compare_dictionary;
 use crate::hung::compare_hung;
 use crate::moves::move_agrees;
 use crate::pairs::compare_pair;
+use crate::replays::compare_few;
 use crate::rows::directions_at;
 use crate::rows::last;
 use crate::rows::strip_at;
-use crate::runs::replay;
+use crate::runs::make_listed;
 use crate::runs::run_agrees;
 use crate::single::count_agrees;
 use crate::single::first_agrees;
@@ -17,6 +18,7 @@ use crate::spoiled::compare_sheets;
 use crate::tally;
 use crate::tally::Tally;
 use crate::tally::note;
+use crate::ways::compare_way;
 
 // The strip of a number by itself.
 fn compare_strip(tally: &mut Tally, stock: &[u16], book: &[u8], i: usize, work: &mut [u8]) {
@@ -88,6 +90,7 @@ fn compare_strips(tally: &mut Tally, stock: &[u16], book: &[u8], work: &mut [u8]
     let mut i = 0;
     while i < strips {
         compare_number(tally, stock, book, i, work);
+        compare_few(tally, stock, book, i, work);
         i += 1;
     }
 }
@@ -102,7 +105,7 @@ fn compare_run(
     list: &mut [u8],
 ) {
     note(tally, tally::RUN, run_agrees(stock, book, work, back, list));
-    replay(tally, book, work, back, list);
+    make_listed(tally, book, work, back, list);
 }
 
 // Run with room for every move of the book, and with room for half of them, since a move takes two bytes.
@@ -115,13 +118,19 @@ fn compare_runs(tally: &mut Tally, stock: &[u16], book: &[u8], work: &mut [u8], 
     }
 }
 
+// The whole book, on or back: by Run, and by replaying its moves.
+fn compare_through(tally: &mut Tally, stock: &[u16], book: &[u8], work: &mut [u8], back: bool) {
+    compare_runs(tally, stock, book, work, back);
+    compare_way(tally, stock, book, work, back);
+}
+
 // The book of a stock, with a strip to work on.
 pub fn compare_book(tally: &mut Tally, stock: &[u16], book: &[u8], work: &mut [u8]) {
     let first = strip_at(book, 0, work.len());
     note(tally, tally::COUNT, count_agrees(stock, book.len() / 8));
     note(tally, tally::FIRST, first_agrees(stock, first, work));
-    compare_runs(tally, stock, book, work, false);
-    compare_runs(tally, stock, book, work, true);
+    compare_through(tally, stock, book, work, false);
+    compare_through(tally, stock, book, work, true);
     compare_strips(tally, stock, book, work);
     compare_dictionary(tally, stock, book, work);
 }

@@ -2,8 +2,9 @@
 // blocks also with a kind without blocks before some of the kinds, and compares them number by number with what the calls answer. Words and strips are
 // listed one after the other: nothing is ranked, and no strip is moved to get the next one. The dictionary of a stock is its book, sorted by comparing
 // strips block by block. The turns of a strip, as it stands and read backwards, are written down one after the other, and the next paper is looked for in
-// the sorted book. For stocks of up to 4 blocks every strip is compared with every other, and press sheets are made from the strips of the book, cut and
-// spoiled, and compared with what is rebuilt of them.
+// the sorted book. The strips that stood on the bar are written down one after the other, and looked for in the book. For stocks of up to 4 blocks every
+// strip is compared with every other, press sheets are made from the strips of the book, cut and spoiled, and compared with what is rebuilt of them, and every
+// list of up to two pairs is replayed, right or wrong.
 mod books;
 mod compare;
 mod dictionary;
@@ -13,6 +14,7 @@ mod moves;
 mod pairs;
 mod parting;
 mod patterns;
+mod replays;
 mod rows;
 mod runs;
 mod search;
@@ -21,8 +23,10 @@ mod shelf;
 mod single;
 mod spoiled;
 mod stocks;
+mod stood;
 mod tally;
 mod turns;
+mod ways;
 
 use books::build;
 use compare::compare_book;

@@ -95,7 +95,7 @@ pub fn same(one: &[u8], other: &[u8]) -> bool {
 }
 
 // Exchanges the blocks of two places, the smaller first. Gives whether there are two such places and their blocks differ.
-fn exchange(work: &mut [u8], low: u8, high: u8) -> bool {
+pub fn exchange(work: &mut [u8], low: u8, high: u8) -> bool {
     if low == 0 {
         return false;
     }

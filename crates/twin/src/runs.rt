@@ -21,7 +21,7 @@ fn moves_of(list: &[u8], book: &[u8]) -> usize {
 }
 
 // The number m further on than the first, or m further back than the last.
-fn number_after(book: &[u8], back: bool, m: usize) -> usize {
+pub fn number_after(book: &[u8], back: bool, m: usize) -> usize {
     if back {
         let end = last(book);
         if m <= end {
@@ -74,7 +74,14 @@ pub fn run_agrees(
 }
 
 // Makes a listed move, and compares the strip after it.
-fn replay_move(tally: &mut Tally, book: &[u8], work: &mut [u8], back: bool, list: &[u8], i: usize) {
+fn make_listed_move(
+    tally: &mut Tally,
+    book: &[u8],
+    work: &mut [u8],
+    back: bool,
+    list: &[u8],
+    i: usize,
+) {
     if i < list.len() / 2 {
         let low = list[2 * i];
         let high = list[2 * i + 1];
@@ -85,14 +92,14 @@ fn replay_move(tally: &mut Tally, book: &[u8], work: &mut [u8], back: bool, list
 }
 
 // Makes the listed moves on the first strip, or on the last.
-pub fn replay(tally: &mut Tally, book: &[u8], work: &mut [u8], back: bool, list: &[u8]) {
+pub fn make_listed(tally: &mut Tally, book: &[u8], work: &mut [u8], back: bool, list: &[u8]) {
     let number = number_after(book, back, 0);
     let from = strip_at(book, number, work.len());
     copy(work, from);
     let moves = moves_of(list, book);
     let mut i = 0;
     while i < moves {
-        replay_move(tally, book, work, back, list, i);
+        make_listed_move(tally, book, work, back, list, i);
         i += 1;
     }
 }

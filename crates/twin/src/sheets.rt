@@ -53,7 +53,7 @@ fn put_blocks(sheet: &mut Sheet, strip: &[u8]) {
 }
 
 // The first place at which two strips differ, or the last.
-fn place(one: &[u8], other: &[u8], last: bool) -> u8 {
+pub fn place(one: &[u8], other: &[u8], last: bool) -> u8 {
     let mut found: u8 = 0;
     let mut i: u8 = 0;
     while i < 8 {

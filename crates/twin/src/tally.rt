@@ -57,6 +57,14 @@ pub const STAND_AGAIN: usize = 24;
 
 pub const NEXT_PAPER: usize = 25;
 
+pub const REPLAY_MOVES: usize = 26;
+
+pub const REPLAY_EXCHANGES: usize = 27;
+
+pub const REPLAY_LARGE: usize = 28;
+
+pub const REPLAY_WRONG: usize = 29;
+
 fn add_one(tally: &mut Tally, i: usize) {
     if i < 64 {
         let seen = tally[i];
@@ -142,6 +150,13 @@ fn print_sheets(tally: &Tally) {
     );
 }
 
+fn print_replays(tally: &Tally) {
+    line(b"Replay, moves on or back: ", tally, REPLAY_MOVES);
+    line(b"Replay, exchanges by hand: ", tally, REPLAY_EXCHANGES);
+    line(b"Replay, refused for its total: ", tally, REPLAY_LARGE);
+    line(b"Replay, refused for a pair: ", tally, REPLAY_WRONG);
+}
+
 // Count is compared once a stock, and Number once a strip.
 pub fn print(tally: &Tally) {
     said(b"Stocks: ", tally[COUNT]);
@@ -153,4 +168,5 @@ pub fn print(tally: &Tally) {
     print_dictionary(tally);
     print_papers(tally);
     print_sheets(tally);
+    print_replays(tally);
 }

@@ -7,12 +7,13 @@ use native.Mathlib.Decide.{ℕ-discrete}
 use native.Mathlib.Numerals.{add-one}
 use native.Mathlib.Omega.{arith}
 use borrow.Author.Tests.{eq-eqb, ne-eqb}
+use lib.ListN.{List·getD-eq-default}
 use Rattle.rules.specs.Stock.{total, IsStrip}
 use Rattle.rules.specs.Book.{book, placeIn}
 use Rattle.rules.specs.Neighbours.{places}
 use Rattle.rules.specs.Refusals.{No, fine}
-use Rattle.rules.proofs.Places.{place-below, place-undone, book-only, book-place}
-use Rattle.walking.specs.Answers.{shifted, along, leftAlong, beside, endNo}
+use Rattle.rules.proofs.Places.{place-below, place-undone, book-size, book-only, book-place}
+use Rattle.walking.specs.Answers.{shifted, along, leftAlong, beside, onward, left, endNo}
 use Rattle.walking.proofs.Numbers.{shifted-none, shifted-further, shifted-below, shifted-back, ahead-further, ahead-back}
 use Rattle.walking.proofs.OneMove.{made}
 
@@ -33,6 +34,11 @@ module _ (d : Bool) (counts s : List ℕ) where
   pub left-nine : leftAlong d counts s ≡ 0 → endNo d counts s ≡ (9, 0)
   unfolding endNo
   left-nine l = rw (eq-eqb (leftAlong d counts s) 0 l)
+
+-- after the last strip there is none
+pub past-last : (counts s : List ℕ) → IsStrip counts s → left counts s ≡ 0 → onward counts s 1 ≡ []
+unfolding along leftAlong
+past-last counts s h e = List·getD-eq-default (book counts) [] (omega (arith, book-size counts, place-below counts s h))
 
 module _ (d : Bool) (counts s : List ℕ) (h : IsStrip counts s) where
   -- a move exchanges two places

@@ -7,9 +7,9 @@ use mathlib.Core.List.{List, [], _∷_}
 use native.Mathlib.Omega.{arith}
 use lib.ListN.{length, length-reverse}
 use Rattle.rules.specs.Stock.{IsStrip}
-use Rattle.rules.specs.Neighbours.{Neighbours, places}
+use Rattle.rules.specs.Neighbours.{Neighbours, places, swap}
 use Rattle.rules.specs.Refusals.{No, fine}
-use Rattle.rules.proofs.Exchange.{swap, exchanged}
+use Rattle.rules.proofs.Exchange.{exchanged}
 use Rattle.rules.proofs.Walk.{Move}
 use Rattle.rules.proofs.Strips.{moveOf, strip-fits}
 use Rattle.rules.proofs.Neighbours.{swapped-places, swapped-neighbours}

@@ -8,7 +8,7 @@ use walker::turning::turned_above;
 ghost use Prim.Native.Nat.{_≤_, _<_};
 ghost use mathlib.Core.Path.{_≡_};
 ghost use lib.ListN.{length};
-ghost use Rattle.rules.proofs.Exchange.{swap};
+ghost use Rattle.rules.specs.Neighbours.{swap};
 ghost use Rattle.walking.specs.Checked.{Checked, Sought, IsStep, asMade, stepAnswer, stepStrip};
 
 // Makes a move that was found: exchanges two blocks and turns the kinds above the one that moved.

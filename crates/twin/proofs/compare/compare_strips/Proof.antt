@@ -20,6 +20,7 @@ compare-strips-spec =
     μ-loop
     (λ c. refl)
     (λ c κs. tt)
+    (λ c κs. tt)
     (λ c. omega arith)
     (λ c. omega arith)
     (λ c. omega arith)

@@ -1,10 +1,10 @@
--- Proofs. `twin::runs::replay` is safe and ends.
+-- Proofs. `twin::runs::make_listed` is safe and ends.
 use Prim.Native.Nat.{_-_}
 use mathlib.Core.Path.{_≡_, refl}
 use native.Mathlib.Omega.{arith}
 use lib.ListN.{length}
-use Rattle.twin.proofs.runs.replay.Statement.{statement}
-use Rattle.twin.proofs.runs.replay.Tie as tie
+use Rattle.twin.proofs.runs.make_listed.Statement.{statement}
+use Rattle.twin.proofs.runs.make_listed.Tie as tie
 
 abbrev Inv-loop : tie.InvT-loop
 Inv-loop tally₀ book work₀ back list number moves i₀ tally work i = length work ≡ length work₀
@@ -12,8 +12,8 @@ Inv-loop tally₀ book work₀ back list number moves i₀ tally work i = length
 abbrev μ-loop : tie.MeasureT-loop
 μ-loop tally₀ book work₀ back list number moves i₀ tally work i = moves - i
 
-pub replay-spec : {M : Type 1} → statement M
-replay-spec =
+pub make-listed-spec : {M : Type 1} → statement M
+make-listed-spec =
     tie.close
     (tie.spec
     Inv-loop
