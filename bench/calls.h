@@ -12,12 +12,16 @@ typedef void call(work *w, size_t i);
 
 static void number(work *w, size_t i)
 {
-    w->numbers[i] = nelfrupi_number(w->stock, w->kinds, w->strips[i], w->n).number;
+    nelfrupi_numbered told = nelfrupi_number(w->stock, w->kinds, w->strips[i], w->n);
+    w->numbers[i] = told.number;
+    w->cuts[i] = told.cuts;
 }
 
 static void plain_number(work *w, size_t i)
 {
-    w->numbers[i] = book_number(w->stock, w->kinds, w->strips[i], w->n);
+    plain_numbered told = book_number(w->stock, w->kinds, w->strips[i], w->n);
+    w->numbers[i] = told.number;
+    w->cuts[i] = told.cuts;
 }
 
 static void strip(work *w, size_t i)
@@ -123,14 +127,16 @@ static void least(call *const *made, int calls, work *w, double *took)
  * as the second. */
 static void hold_numbers(work *w, call *const to_number[2], call *const to_strip[2], double took[2], double ratio[2])
 {
-    static uint64_t given[STRIPS];
+    static uint64_t given[STRIPS], cut[STRIPS];
     static uint8_t lent[STRIPS][64];
     double spent[2];
     memcpy(lent, w->strips, sizeof lent);
     round_of(to_number[0], w);
     memcpy(given, w->numbers, sizeof given);
+    memcpy(cut, w->cuts, sizeof cut);
     least(to_number, 2, w, spent);
     must(memcmp(given, w->numbers, sizeof given) == 0, "a number and plain C's differ");
+    must(memcmp(cut, w->cuts, sizeof cut) == 0, "the cuts and plain C's differ");
     took[0] = spent[0];
     ratio[0] = spent[0] / spent[1];
     round_of(to_strip[0], w);
@@ -210,7 +216,7 @@ static void print_all_calls(work *works)
 {
     printf("\nA call: nanoseconds, of Walk from the first strip on, of the others on strips in no order; how many times as long\n"
            "Open and Walk take as plain C that makes the same checks; and how many times as long Number and Strip take as\n"
-           "plain C that has a table of binomials and checks nothing.\n\n");
+           "plain C that has a table of binomials, counts the cuts too, and checks nothing.\n\n");
     printf("%-12s%9s%9s%9s%9s%12s%12s%12s%12s\n", "stock", "Open", "Walk", "Number", "Strip", "Open / C", "Walk / C",
            "Number / C", "Strip / C");
     for (size_t i = 0; i < STOCKS; i++) {

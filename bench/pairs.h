@@ -94,8 +94,8 @@ static void hold_pairs(const work *w, pairing *p)
         plain_compared_pair(w, p, i);
         must(p->given[i].which == p->plain[i].which && p->given[i].kind == p->plain[i].kind, "Which and plain C differ");
         if (w->numbered && p->given[i].which != 0) {
-            uint64_t one = book_number(w->stock, w->kinds, w->strips[i], w->n);
-            uint64_t two = book_number(w->stock, w->kinds, p->partners[i], w->n);
+            uint64_t one = book_number(w->stock, w->kinds, w->strips[i], w->n).number;
+            uint64_t two = book_number(w->stock, w->kinds, p->partners[i], w->n).number;
             must(p->given[i].which == (one < two ? NELFRUPI_FIRST : two < one ? NELFRUPI_SECOND : NELFRUPI_EQUAL),
                  "Which and the numbers differ");
         }

@@ -1,6 +1,6 @@
 /* Plain C to hold the library against. Nothing is checked where the name does not say so: the caller lends what is
  * right. The book is stepped through by the rule's own recursion and by the rule from the left, as the library does it,
- * and numbered by the recursion with a table of binomials, which the library has not. */
+ * and numbered by the recursion, whose cuts are counted, with a table of binomials, which the library has not. */
 #ifndef PLAIN_H
 #define PLAIN_H
 
@@ -145,19 +145,21 @@ static void fill_binomials(void)
     }
 }
 
-static uint64_t word_index(const uint8_t *word, size_t a, uint8_t kind, size_t others)
+/* The cuts that it takes are added to those before. */
+static uint64_t word_index(const uint8_t *word, size_t a, uint8_t kind, size_t others, uint64_t *cuts)
 {
     if (others == 0 || a <= others) {
         return 0;
     }
+    ++*cuts;
     if (word[a - 1] == kind) {
-        return word_index(word, a - 1, kind, others);
+        return word_index(word, a - 1, kind, others, cuts);
     }
     uint64_t before = binomials[a - 1][others];
     if (word[a - 2] == kind) {
-        return before + binomials[a - 2][others - 1] - 1 - word_index(word, a - 2, kind, others - 1);
+        return before + binomials[a - 2][others - 1] - 1 - word_index(word, a - 2, kind, others - 1, cuts);
     }
-    return before + binomials[a - 2][others - 1] + word_index(word, a - 2, kind, others - 2);
+    return before + binomials[a - 2][others - 1] + word_index(word, a - 2, kind, others - 2, cuts);
 }
 
 /* The first blocks of the word are those of the others. */
@@ -263,18 +265,22 @@ CALLED size_t run_back_by_left(const uint16_t *stock, size_t kinds, uint8_t *str
     return book_run(by_left, true, stock, kinds, strip, n, back, list, room);
 }
 
-CALLED uint64_t book_number(const uint16_t *stock, size_t kinds, const uint8_t *strip, size_t n)
+typedef struct {
+    uint64_t number, cuts;
+} plain_numbered;
+
+CALLED plain_numbered book_number(const uint16_t *stock, size_t kinds, const uint8_t *strip, size_t n)
 {
-    uint64_t number = 0;
+    uint64_t number = 0, cuts = 0;
     size_t below = 0;
     for (size_t j = 0; j < kinds; j++) {
         uint8_t word[64];
         size_t a = reduce(strip, n, (uint8_t)(j + 1), word);
-        uint64_t index = word_index(word, a, (uint8_t)(j + 1), below), patterns = binomials[a][below];
+        uint64_t index = word_index(word, a, (uint8_t)(j + 1), below, &cuts), patterns = binomials[a][below];
         number = number * patterns + (number % 2 == 1 ? patterns - 1 - index : index);
         below += stock[j];
     }
-    return number;
+    return (plain_numbered){number, cuts};
 }
 
 CALLED void book_strip(const uint16_t *stock, size_t kinds, uint64_t number, uint8_t *strip, size_t n)

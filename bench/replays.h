@@ -65,12 +65,12 @@ CALLED plain_replayed checked_replay(const uint16_t *stock, size_t kinds, uint8_
         return told;
     }
     memset(seen, false, strips);
-    uint64_t number = book_number(stock, kinds, strip, n);
+    uint64_t number = book_number(stock, kinds, strip, n).number;
     seen[number] = true;
     for (size_t i = 0; i < length; i += 2) {
         uint64_t before = number;
         exchange(strip, pairs[i] - 1u, pairs[i + 1] - 1u);
-        number = book_number(stock, kinds, strip, n);
+        number = book_number(stock, kinds, strip, n).number;
         seen[number] = true;
         told.walked += number == before + 1;
     }

@@ -24,7 +24,7 @@ typedef struct {
     uint64_t moves; /* how many are made, from the first strip */
     bool numbered;  /* whether the book has fewer than 2^64 strips */
     uint8_t first[64], strips[STRIPS][64];
-    uint64_t numbers[STRIPS];
+    uint64_t numbers[STRIPS], cuts[STRIPS];
     nelfrupi_walker walkers[STRIPS];
     uint8_t reached[64]; /* where moves from the first strip have come to, */
     nelfrupi_walker walker; /* and the walker there */

@@ -95,9 +95,14 @@ nelfrupi_refusal nelfrupi_first(const uint16_t *stock, size_t kinds, uint8_t *bu
 typedef struct {
     nelfrupi_refusal refusal;
     uint64_t number;
+    uint64_t cuts; /* at most 840 */
 } nelfrupi_numbered;
 
-/* Number: the number of a strip.
+/* Number: the number of a strip, and the cuts that it takes to find it. For each kind from 2, with the kinds above it
+ * taken out, the blocks of the kind are the letters K of a word and all others its letters R. As long as the word has
+ * both letters, a cut takes the last one off where that is K, and else the last two. With N(j) for the blocks of kinds 1
+ * to j, the cuts are at most the sum of N(j) - 1 over the kinds j from 2 that have blocks, leaving out the stock's first
+ * kind that has any.
  * Refused: 1, 2, 3, 4, 5, 6, 7. */
 nelfrupi_numbered nelfrupi_number(const uint16_t *stock, size_t kinds, const uint8_t *strip, size_t length);
 

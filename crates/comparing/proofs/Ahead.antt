@@ -6,10 +6,9 @@ use native.Mathlib.Omega.{arith}
 use lib.ListN.{length, take}
 use lib.Seq.{take-all}
 use Rattle.rules.specs.Stock.{sum, IsStrip}
-use Rattle.rules.specs.Book.{reduced, book, placeIn}
+use Rattle.rules.specs.Book.{reduced, book, placeIn, pattern}
 use Rattle.rules.proofs.Listed.{same-place}
 use Rattle.rules.proofs.Patterns.{listed-E}
-use Rattle.rules.proofs.Books.{pattern}
 use Rattle.rules.proofs.Strips.{number, listed}
 use Rattle.rules.proofs.Numbers.{numbered-lt}
 use Rattle.rules.proofs.Reduced.{prefix-strip, prefix-all}

@@ -8,11 +8,10 @@ use lib.Dec.{eqb}
 use lib.ListN.{length, getD}
 use lib.Seq.{take-all}
 use Rattle.rules.specs.Stock.{binom}
-use Rattle.rules.specs.Book.{K, R, Word}
+use Rattle.rules.specs.Book.{K, R, Word, letter, pattern}
 use Rattle.rules.specs.Refusals.{pick}
 use Rattle.rules.proofs.Listed.{like, face, face-lt}
 use Rattle.rules.proofs.Patterns.{countR, rank, listed-L}
-use Rattle.rules.proofs.Books.{letter, pattern}
 use Rattle.rules.proofs.Index.{index, rests, rests-turned}
 use Rattle.rules.proofs.LettersLeft.{lettersLeft, left-whole, left-long, left-letter}
 use Rattle.comparing.specs.Order.{whichOf}

@@ -6,16 +6,15 @@ use mathlib.Core.List.{List, [], _∷_}
 use lib.ListN.{length, getD}
 use Rattle.rules.specs.Stock.{sum, total, IsStock, IsStrip}
 use Rattle.rules.specs.Book.{placeIn}
-use Rattle.rules.specs.Refusals.{No, firstOf, unless, answer, stockNos, checkNos, bufferNos, manyNo, aboveNo}
-use Rattle.rules.proofs.Refusals.{passed-first, unless-passed, passed-both-back, answer-refused, answer-stopped, answer-passed, many-passed}
-use Rattle.rules.proofs.Checks.{accepted-back, accepted-buffer-back, accepted-both-back, accepted-number}
+use Rattle.rules.specs.Refusals.{No, fine, firstOf, unless, stockNos, bufferNos, manyNo, aboveNo}
+use Rattle.rules.proofs.Refusals.{passed-first, unless-passed, answer-refused, answer-stopped, answer-passed}
+use Rattle.rules.proofs.Checks.{accepted-back, accepted-buffer-back, accepted-number}
 use Rattle.rules.proofs.Places.{book-only}
 use Rattle.stock.specs.declared.Refusal.{Refusal}
 use Rattle.stock.specs.Refused.{refusal}
 use Rattle.stock.proofs.Tested.{passed, stopped}
-use Rattle.numbering.specs.Answers.{numberNos, byNumberNos}
+use Rattle.numbering.specs.Answers.{byNumberNos}
 use Rattle.dictionary.proofs.Theorems.{dictionary-only}
-use Rattle.drawers.specs.declared.Filed.{Filed}
 use Rattle.drawers.specs.Answers.{asFiled}
 use Rattle.converting.specs.Answers.{convertNos, convertAnswer}
 use Rattle.converting.specs.Lists.{listOf}
@@ -55,7 +54,7 @@ module _ (filed : Bool) (to : List (List ℕ)) (counts : List ℕ) (at : ℕ) (s
     none : firstOf (byNumberNos counts at buffer) .0 ≡ 0
     none = passed (byNumberNos counts at buffer) held is z
 
-    held-in : (total counts < 2 ^ 64) × (at < total counts)
+    pub held-in : (total counts < 2 ^ 64) × (at < total counts)
     held-in = accepted-number counts at (rw rest at none)
 
     pub word-is : word ≡ getD (listOf filed counts) at []
@@ -64,13 +63,6 @@ module _ (filed : Bool) (to : List (List ℕ)) (counts : List ℕ) (at : ℕ) (s
     pub word-own : IsStrip counts word
     word-own = rw word-is (only filed counts at (held-in .1))
 
-    numbered : firstOf (numberNos counts word) .0 ≡ 0
-    unfolding numberNos firstOf
-    numbered = passed-both-back (checkNos counts word) (manyNo counts ∷ []) (accepted-both-back counts word stock word-own) (rw (many-passed counts (held-in .0)))
-
-    pub converted : (r : Filed) → r ≡ answer asFiled (numberNos counts word) 0 (placeIn to word) → r ≡ convertAnswer (listOf filed counts) to counts at
+    pub converted : (number : ℕ) → number ≡ placeIn to word → asFiled fine number ≡ convertAnswer (listOf filed counts) to counts at
     unfolding convertAnswer
-    converted r h =
-        h
-        ∙ sym (answer-passed asFiled 0 (placeIn to word) (numberNos counts word) numbered)
-        ∙ rw word-is (answer-passed asFiled 0 _ (convertNos counts at) (rw same-rows at none))
+    converted number h = ap (asFiled fine) (h ∙ ap (placeIn to) word-is) ∙ answer-passed asFiled 0 _ (convertNos counts at) (rw same-rows at none)

@@ -1,21 +1,23 @@
 // Converting: between the book's numbers and dictionary numbers. The strip of a number in the one list, and the number of that strip in the other.
+use counting::patterns_of;
 use drawers::Filed;
-use drawers::number::dictionary_number;
 use drawers::strip::dictionary_strip;
-use numbering::number::number;
+use entries::entry_of;
+use numbering::number_of;
 use numbering::strip::strip;
 use stock::Refusal;
 use stock::blocks;
 use stock::check_stock;
+ghost use Prim.Native.Nat.{_^_, _<_};
 ghost use mathlib.Core.Path.{_≡_};
 ghost use mathlib.Core.Bool.{not};
 ghost use mathlib.Core.List.{[]};
 ghost use lib.ListN.{getD};
+ghost use Rattle.rules.specs.Stock.{total, IsStock, IsStrip};
 ghost use Rattle.rules.specs.Book.{placeIn};
-ghost use Rattle.rules.specs.Refusals.{firstOf, unless, answer};
+ghost use Rattle.rules.specs.Refusals.{firstOf, unless};
 ghost use Rattle.stock.specs.Refused.{refusal};
-ghost use Rattle.numbering.specs.Answers.{numberNos, byNumberNos};
-ghost use Rattle.drawers.specs.Answers.{asFiled};
+ghost use Rattle.numbering.specs.Answers.{byNumberNos};
 ghost use Rattle.converting.specs.Answers.{convertAnswer, toDictionaryAnswer, toBookAnswer};
 ghost use Rattle.converting.specs.Lists.{listOf};
 
@@ -29,19 +31,16 @@ fn strip_in(stock: &[u16], at: u64, filed: bool, buffer: &mut [u8]) -> Refusal
     strip(stock, at, buffer)
 }
 
-// The number of a strip in the book, or where `filed` in the dictionary.
-fn number_in(stock: &[u16], word: &[u8], filed: bool) -> Filed
-    ensures { λ r. ⌜ r ≡ answer asFiled (numberNos (now (stock .entry)) (now (word .entry))) 0 (placeIn (listOf filed (now (stock .entry))) (now (word .entry))) ⌝ }
+// The number of a strip in the book, or where `filed` in the dictionary. The strip is one of the stock, so nothing is checked again.
+fn number_in(stock: &[u16], word: &[u8], filed: bool) -> u64
+    requires { ⌜ IsStock (now stock) × IsStrip (now stock) (now word) × (total (now stock) < 2 ^ 64) ⌝ }
+    ensures { λ r. ⌜ r ≡ placeIn (listOf filed (now (stock .entry))) (now (word .entry)) ⌝ }
 {
     if filed {
-        return dictionary_number(stock, word);
+        return entry_of(stock, word).number;
     }
-    let numbered = number(stock, word);
-    let refusal = numbered.refusal;
-    Filed {
-        refusal,
-        number: numbered.number,
-    }
+    let patterns = patterns_of(stock);
+    number_of(&patterns, stock, word).number
 }
 
 // From a number of the book to that of the dictionary, or where `filed` the other way.
@@ -66,7 +65,11 @@ fn convert(stock: &[u16], at: u64, filed: bool) -> Filed
             number: 0,
         };
     }
-    number_in(stock, &word[..n], !filed)
+    let number = number_in(stock, &word[..n], !filed);
+    Filed {
+        refusal: Refusal { no: 0, place: 0 },
+        number,
+    }
 }
 
 // The dictionary number of the strip that has a number in the book.

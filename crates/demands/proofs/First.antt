@@ -20,7 +20,7 @@ use Rattle.counting.proofs.first.first.Kinds as first
 use Rattle.counting.proofs.first.first.Reads as first-reads
 use Rattle.numbering.specs.declared.number.Numbered.{Numbered}
 use Rattle.numbering.specs.Answers.{numberNos, numberAnswer, byNumberNos, stripAnswer}
-use Rattle.numbering.proofs.Theorems.{number-right, strip-right}
+use Rattle.numbering.proofs.Theorems.{number-right, cuts-right, strip-right}
 use Rattle.numbering.proofs.number.number.Kinds as number
 use Rattle.numbering.proofs.number.number.Reads as number-reads
 use Rattle.numbering.proofs.strip.strip.Kinds as strip
@@ -122,9 +122,9 @@ first-refuses κs a r s h = record { named = h .0; left = first-right κs a r s 
 -- ---- Number: 1 to 6, 7
 
 pub number-refuses : (κs : Lfts 2) (a : Dens κs number.ps) (r : Numbered) (s : AtExit (endedOf 2 number.ps number.r) κs) → number-reads.Post κs a r s
-    → Refuses (numberNos (a .0 .now) (a .1 .0 .now)) (r .refusal) (r .number ≡ 0)
+    → Refuses (numberNos (a .0 .now) (a .1 .0 .now)) (r .refusal) ((r .number ≡ 0) × (r .cuts ≡ 0))
 unfolding numberAnswer
-number-refuses κs a r s h = record { named = ap (λ (r : Numbered). r .refusal) h; left = number-right κs a r s h .refused-zero }
+number-refuses κs a r s h = record { named = ap (λ (r : Numbered). r .refusal) h; left = λ no. (number-right κs a r s h .refused-zero no, cuts-right κs a r s h .refused-zero no) }
 
 -- ---- Strip: 1, 2, 3, 4, 7, 8. The buffer stays
 

@@ -10,4 +10,5 @@ pub mod SortingTable
 pub mod EndlessPapers
 pub mod FootUp
 pub mod ReallyPrinted
+pub mod HowFar
 pub mod Outcomes

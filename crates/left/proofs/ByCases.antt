@@ -8,8 +8,7 @@ use native.Mathlib.Numerals.{add-one, sub-one}
 use native.Mathlib.Omega.{arith}
 use lib.Dec.{eqb}
 use lib.ListN.{length, getD, drop}
-use Rattle.rules.specs.Book.{K, R, odd}
-use Rattle.rules.proofs.Books.{letter, pattern}
+use Rattle.rules.specs.Book.{K, R, odd, letter, pattern}
 use Rattle.rules.proofs.Runs.{run, pattern-at, pattern-end}
 use Rattle.rules.proofs.Moves.{gate}
 use Rattle.rules.proofs.Endings.{gate-open}

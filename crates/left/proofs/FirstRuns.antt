@@ -6,10 +6,10 @@ use mathlib.Core.List.{List}
 use native.Mathlib.Omega.{arith}
 use lib.ListN.{length, drop}
 use lib.Seq.{drop-drop}
-use Rattle.rules.specs.Book.{K, R, Word, odd}
+use Rattle.rules.specs.Book.{K, R, Word, odd, pattern}
 use Rattle.rules.proofs.Listed.{flip, differs}
 use Rattle.rules.proofs.Patterns.{countR}
-use Rattle.rules.proofs.Books.{pattern, length-pattern}
+use Rattle.rules.proofs.Books.{length-pattern}
 use Rattle.rules.proofs.Index.{rests}
 use Rattle.rules.proofs.Runs.{run, past-K-countR, past-R-countR, run-whole, run-begins}
 use Rattle.rules.proofs.Left.{ahead, near, far, move-ahead, move-near, move-far}

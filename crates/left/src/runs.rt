@@ -2,8 +2,7 @@
 ghost use Prim.Native.Nat.{_+_, _≤_};
 ghost use mathlib.Core.Path.{_≡_};
 ghost use lib.ListN.{length, drop};
-ghost use Rattle.rules.specs.Book.{odd};
-ghost use Rattle.rules.proofs.Books.{letter, pattern};
+ghost use Rattle.rules.specs.Book.{odd, letter, pattern};
 ghost use Rattle.rules.proofs.Runs.{run};
 
 // Where the run that begins at a place ends: a run of the kind where `own`, and else of others.

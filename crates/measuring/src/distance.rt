@@ -68,7 +68,7 @@ pub fn distance(stock: &[u16], first: &[u8], second: &[u8]) -> Apart
             moves: 0,
         };
     }
-    let from = number_of(&patterns, stock, first);
-    let to = number_of(&patterns, stock, second);
+    let from = number_of(&patterns, stock, first).number;
+    let to = number_of(&patterns, stock, second).number;
     moves_between(from, to)
 }

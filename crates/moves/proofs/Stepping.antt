@@ -5,8 +5,8 @@ use mathlib.Core.Bool.{true, false}
 use mathlib.Core.Option.{Option, none, some}
 use mathlib.Core.List.{List}
 use lib.ListN.{length, getD, take}
+use Rattle.rules.specs.Book.{pattern}
 use Rattle.rules.proofs.Moves.{orElse, orElse-none, moveE}
-use Rattle.rules.proofs.Books.{pattern}
 use Rattle.rules.proofs.Index.{rests}
 use Rattle.rules.proofs.Endings.{Both, gate-open, move-no-rest, rest-KR, move-K, move-KR, move-RR}
 use Rattle.moves.specs.declared.Step.{Step}

@@ -9,11 +9,11 @@ use lib.ListN.{length, getD}
 use contract.Lifetimes.{Lfts}
 use borrow.Fn.Kinds.{Dens, endedOf}
 use denote.Triple.Clauses.{AtExit}
-use Rattle.rules.specs.Book.{Word, E, lay}
+use Rattle.rules.specs.Book.{Word, E, lay, pattern}
 use Rattle.rules.proofs.Patterns.{IsWord, listed-E}
 use Rattle.rules.proofs.Exchange.{Exchanged, exchanged}
 use Rattle.rules.proofs.Moves.{moveE, Onward, Final, NextWord, ResultE, E-move}
-use Rattle.rules.proofs.Books.{pattern, without, lay-back, pattern-lay, without-lay, without-free, free-at, countR-pattern, length-pattern}
+use Rattle.rules.proofs.Books.{without, lay-back, pattern-lay, without-lay, without-free, free-at, countR-pattern, length-pattern}
 use Rattle.rules.proofs.Walk.{LaidExch, lay-exch}
 use Rattle.rules.proofs.Index.{rests, index}
 use Rattle.moves.specs.declared.Step.{Step}

@@ -3,8 +3,8 @@ use Prim.Native.Nat.{ℕ}
 use mathlib.Core.Bool.{Bool, true, false, cond}
 use mathlib.Core.Option.{Option, none, some}
 use mathlib.Core.List.{List}
+use Rattle.rules.specs.Book.{pattern}
 use Rattle.rules.proofs.Moves.{moveE}
-use Rattle.rules.proofs.Books.{pattern}
 use Rattle.moves.specs.declared.Step.{Step}
 
 -- the two places to exchange, from 0, smaller first; where there is no move, both are 0

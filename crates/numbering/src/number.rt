@@ -1,4 +1,4 @@
-// Number: the strip's place in the book of its stock.
+// Number: the strip's place in the book of its stock, and the cuts for all its kinds.
 use crate::numbers::number_of;
 use counting::patterns_of;
 use counting::total_of;
@@ -12,9 +12,10 @@ ghost use Rattle.numbering.specs.Answers.{numberAnswer};
 pub struct Numbered {
     pub refusal: Refusal,
     pub number: u64,
+    pub cuts: u64,
 }
 
-// The strip's place in the book of its stock.
+// The strip's place in the book of its stock, and the cuts for all its kinds.
 pub fn number(stock: &[u16], strip: &[u8]) -> Numbered
     ensures { λ r. ⌜ r ≡ numberAnswer (now (stock .entry)) (now (strip .entry)) ⌝ }
 {
@@ -24,6 +25,7 @@ pub fn number(stock: &[u16], strip: &[u8]) -> Numbered
         return Numbered {
             refusal: checked,
             number: 0,
+            cuts: 0,
         };
     }
     let patterns = patterns_of(stock);
@@ -32,11 +34,13 @@ pub fn number(stock: &[u16], strip: &[u8]) -> Numbered
         return Numbered {
             refusal: Refusal { no: 7, place: 0 },
             number: 0,
+            cuts: 0,
         };
     }
     let found = number_of(&patterns, stock, strip);
     Numbered {
         refusal: Refusal { no: 0, place: 0 },
-        number: found,
+        number: found.number,
+        cuts: found.cuts as u64,
     }
 }

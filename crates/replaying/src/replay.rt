@@ -40,7 +40,7 @@ fn exchange_all(
     requires { ⌜ ArePatterns (now stock) (now patterns) × Replayable (now stock) (now strip) (now pairs) × (length (now flags) ≡ total (now stock)) × Clear (now flags) ⌝ }
     ensures { λ r. ⌜ (r ≡ walked (now (stock .entry)) (now (strip .entry)) (now (pairs .entry))) × (now (strip .exit) ≡ finalStrip (now (strip .entry)) (now (pairs .entry))) × Flagged (book (now (stock .entry))) (stood (now (strip .entry)) (now (pairs .entry))) (now (flags .exit)) ⌝ }
 {
-    let start = number_of(patterns, stock, strip);
+    let start = number_of(patterns, stock, strip).number;
     flags[start as usize] = true;
     let whole = pairs.len() / 2;
     let mut number = start;
@@ -50,7 +50,7 @@ fn exchange_all(
         exchange(strip, pairs[2 * k], pairs[2 * k + 1]);
         k += 1;
         let before = number;
-        number = number_of(patterns, stock, strip);
+        number = number_of(patterns, stock, strip).number;
         flags[number as usize] = true;
         if number == before + 1 {
             walked += 1;

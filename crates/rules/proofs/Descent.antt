@@ -9,13 +9,13 @@ use native.Mathlib.Omega.{arith}
 use lib.ListN.{length, getD, take, drop, replicate, length-replicate, length-take, length-drop}
 use lib.Seq.{take-all, take-take, take-at, drop-at, drop-drop}
 use Rattle.rules.specs.Stock.{sum, IsStrip}
-use Rattle.rules.specs.Book.{Word, reduced, backward}
+use Rattle.rules.specs.Book.{Word, reduced, backward, pattern}
 use Rattle.rules.proofs.Listed.{flip}
 use Rattle.rules.proofs.Last.{reverse-take, drop-take}
 use Rattle.rules.proofs.Turned.{sum-next, turned-length}
 use Rattle.rules.proofs.Patterns.{IsWord, E-is-first, E-is-last}
 use Rattle.rules.proofs.Moves.{moveE, ResultE, E-move}
-use Rattle.rules.proofs.Books.{pattern, lay-back}
+use Rattle.rules.proofs.Books.{lay-back}
 use Rattle.rules.proofs.Exchange.{exchanged}
 use Rattle.rules.proofs.Walk.{Move, walk, heading, behind, orBehind, lay-first, lay-last, ResultB, walk-right}
 use Rattle.rules.proofs.Strips.{number, moveOf, to-strip}

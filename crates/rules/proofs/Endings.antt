@@ -10,11 +10,11 @@ use borrow.Author.Tests.{eq-eqb, ne-eqb}
 use lib.ListN.{length, getD, take}
 use lib.Seq.{length-take-le}
 use Rattle.rules.specs.Stock.{binom}
-use Rattle.rules.specs.Book.{K, R, Word}
+use Rattle.rules.specs.Book.{K, R, Word, pattern}
 use Rattle.rules.proofs.Turned.{binom-zero}
 use Rattle.rules.proofs.Patterns.{countR, IsWord, listed-E, binom-self}
 use Rattle.rules.proofs.Moves.{countK, gate, orElse, orElse-none, move, moveE, ResultE, E-move, count-both, on-K, back-K, on-KR, back-KR, on-RR, back-RR}
-use Rattle.rules.proofs.Books.{pattern, length-pattern}
+use Rattle.rules.proofs.Books.{length-pattern}
 use Rattle.rules.proofs.Last.{rev-one, rev-two}
 use Rattle.rules.proofs.Index.{rests, rests-K, rests-turned, pattern-reverse, length-turned, in-KR, in-RR}
 

@@ -8,9 +8,8 @@ use borrow.Author.Tests.{eq-eqb, ne-eqb}
 use lib.Dec.{eqb}
 use lib.ListN.{length, getD, take}
 use lib.Seq.{take-all, length-take-le}
-use Rattle.rules.specs.Book.{K, R, Word}
+use Rattle.rules.specs.Book.{K, R, Word, letter, pattern}
 use Rattle.rules.proofs.Patterns.{rank}
-use Rattle.rules.proofs.Books.{letter, pattern}
 use Rattle.rules.proofs.Last.{reverse-take}
 use Rattle.rules.proofs.Index.{index, index-turned, length-turned}
 

@@ -7,9 +7,9 @@ use native.Mathlib.Numerals.{add-one}
 use native.Mathlib.Omega.{arith}
 use lib.Dec.{eqb}
 use lib.ListN.{length, getD, drop, drop-of-length-le}
-use Rattle.rules.specs.Book.{Letter, K, R, Word}
+use Rattle.rules.specs.Book.{Letter, K, R, Word, letter, pattern}
 use Rattle.rules.proofs.Patterns.{countR}
-use Rattle.rules.proofs.Books.{letter, pattern, length-pattern}
+use Rattle.rules.proofs.Books.{length-pattern}
 
 -- how many letters x a word begins with
 abbrev pub run : Letter → Word → ℕ

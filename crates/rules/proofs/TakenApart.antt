@@ -4,10 +4,10 @@ use mathlib.Core.Path.{_≡_}
 use mathlib.Core.List.{List, []}
 use lib.ListN.{length, getD, take}
 use Rattle.rules.specs.Stock.{sum, binom, IsStrip}
-use Rattle.rules.specs.Book.{E, lay, odd, reduced}
+use Rattle.rules.specs.Book.{E, lay, odd, reduced, pattern}
 use Rattle.rules.proofs.Listed.{face}
 use Rattle.rules.proofs.Patterns.{rankE, listed-E}
-use Rattle.rules.proofs.Books.{pattern, lay-back}
+use Rattle.rules.proofs.Books.{lay-back}
 use Rattle.rules.proofs.Strips.{number}
 use Rattle.rules.proofs.Numbers.{numbered-div, numbered-mod}
 use Rattle.rules.proofs.Reduced.{reduced-without}

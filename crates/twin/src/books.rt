@@ -5,13 +5,16 @@ use crate::patterns::bit;
 use crate::patterns::e;
 use crate::patterns::has;
 use crate::patterns::turned;
+use crate::patterns::uses_at;
 use crate::patterns::word_at;
 use crate::patterns::words;
 use crate::shelf::Book;
 use crate::shelf::Shelf;
 use crate::shelf::behind;
 use crate::shelf::byte;
+use crate::shelf::cuts;
 use crate::shelf::put;
+use crate::shelf::put_cuts;
 
 // A kind that is laid in: its index from 0, and its words of n letters, which are those of a list.
 struct Layer {
@@ -57,6 +60,13 @@ fn lay_directions(shelf: &mut Shelf, layer: Layer, back: bool, under: usize, row
     put(shelf, row, 7, below);
 }
 
+// The cuts of the strip at the row `under`, and one more for each use of the rule that made the kind's word. With 7 blocks they are at most 21, so that
+// nothing wraps.
+fn lay_cuts(shelf: &mut Shelf, uses: u8, under: usize, row: usize) {
+    let below = cuts(shelf, under);
+    put_cuts(shelf, row, std::num::wrapping_add_u8(below, uses));
+}
+
 // A row for each word of the kind's list, in order or backward. Gives the row behind the last.
 fn lay_list(
     lists: &Lists,
@@ -71,9 +81,10 @@ fn lay_list(
     let mut row = from;
     let mut i = 0;
     while i < many {
-        let word = word_at(lists, list, turned(back, many, i));
-        lay_blocks(shelf, layer, word, under, row);
+        let at = turned(back, many, i);
+        lay_blocks(shelf, layer, word_at(lists, list, at), under, row);
         lay_directions(shelf, layer, back, under, row);
+        lay_cuts(shelf, uses_at(lists, list, at), under, row);
         row = behind(row);
         i += 1;
     }
@@ -108,7 +119,7 @@ fn blocks_to(stock: &[u16], j: usize, below: usize) -> usize {
     below
 }
 
-// The book of a stock, with the books of its first kinds before it on a shelf of zeros. That of kind 1 alone has one strip.
+// The book of a stock, with the books of its first kinds before it on a shelf of zeros. That of kind 1 alone has one strip, and no cut.
 pub fn build(lists: &Lists, shelf: &mut Shelf, stock: &[u16]) -> Book {
     let mut n = blocks_to(stock, 0, 0);
     lay_blocks(shelf, Layer { j: 0, n, list: 0 }, all_k(n), 0, 0);

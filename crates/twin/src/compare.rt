@@ -1,4 +1,5 @@
 // A whole book compared with what the calls answer.
+use crate::cuts::compare_cuts;
 use crate::filed::compare_dictionary;
 use crate::hung::compare_hung;
 use crate::moves::move_agrees;
@@ -124,13 +125,14 @@ fn compare_through(tally: &mut Tally, stock: &[u16], book: &[u8], work: &mut [u8
     compare_way(tally, stock, book, work, back);
 }
 
-// The book of a stock, with a strip to work on.
-pub fn compare_book(tally: &mut Tally, stock: &[u16], book: &[u8], work: &mut [u8]) {
+// The book of a stock and the cuts of its strips, with a strip to work on.
+pub fn compare_book(tally: &mut Tally, stock: &[u16], book: &[u8], cuts: &[u8], work: &mut [u8]) {
     let first = strip_at(book, 0, work.len());
     note(tally, tally::COUNT, count_agrees(stock, book.len() / 8));
     note(tally, tally::FIRST, first_agrees(stock, first, work));
     compare_through(tally, stock, book, work, false);
     compare_through(tally, stock, book, work, true);
     compare_strips(tally, stock, book, work);
+    compare_cuts(tally, stock, book, cuts, work.len());
     compare_dictionary(tally, stock, book, work);
 }

@@ -1,12 +1,13 @@
 // Builds whole books by the rule of document 01 itself, for every stock of up to 7 blocks in which each kind has blocks, and for those of up to 4
 // blocks also with a kind without blocks before some of the kinds, and compares them number by number with what the calls answer. Words and strips are
-// listed one after the other: nothing is ranked, and no strip is moved to get the next one. The dictionary of a stock is its book, sorted by comparing
-// strips block by block. The turns of a strip, as it stands and read backwards, are written down one after the other, and the next paper is looked for in
-// the sorted book. The strips that stood on the bar are written down one after the other, and looked for in the book. For stocks of up to 4 blocks every
-// strip is compared with every other, press sheets are made from the strips of the book, cut and spoiled, and compared with what is rebuilt of them, and every
-// list of up to two pairs is replayed, right or wrong.
+// listed one after the other: nothing is ranked, and no strip is moved to get the next one; and the uses of the pattern rule are counted as the lists of
+// words are written. The dictionary of a stock is its book, sorted by comparing strips block by block. The turns of a strip, as it stands and read backwards,
+// are written down one after the other, and the next paper is looked for in the sorted book. The strips that stood on the bar are written down one after the
+// other, and looked for in the book. For stocks of up to 4 blocks every strip is compared with every other, press sheets are made from the strips of the book,
+// cut and spoiled, and compared with what is rebuilt of them, and every list of up to four bytes from 0 to 5 is replayed, right or wrong.
 mod books;
 mod compare;
+mod cuts;
 mod dictionary;
 mod filed;
 mod hung;
@@ -35,6 +36,7 @@ use patterns::bit;
 use shelf::BYTES;
 use shelf::Book;
 use shelf::Shelf;
+use shelf::cuts_of;
 use shelf::rows_of;
 use stocks::cut;
 use stocks::first_counts;
@@ -46,7 +48,8 @@ fn compare_on(tally: &mut Tally, stock: &[u16], shelf: &Shelf, book: Book, n: us
     requires { ⌜ n ≤ 8 ⌝ }
 {
     let mut work: [u8; 8] = [0; 8];
-    compare_book(tally, stock, rows_of(shelf, book), &mut work[0..n]);
+    let rows = rows_of(shelf, book);
+    compare_book(tally, stock, rows, cuts_of(shelf, book), &mut work[0..n]);
 }
 
 // The stock of the first of eight counts.
@@ -118,7 +121,7 @@ fn compare_all(lists: &Lists, tally: &mut Tally) {
 }
 
 fn main() {
-    let mut lists: Lists = [0; 2304];
+    let mut lists: Lists = [0; 4608];
     let mut tally: Tally = [0; 64];
     patterns::fill(&mut lists);
     compare_all(&lists, &mut tally);

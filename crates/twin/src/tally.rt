@@ -65,6 +65,8 @@ pub const REPLAY_LARGE: usize = 28;
 
 pub const REPLAY_WRONG: usize = 29;
 
+pub const CUTS: usize = 30;
+
 fn add_one(tally: &mut Tally, i: usize) {
     if i < 64 {
         let seen = tally[i];
@@ -102,6 +104,7 @@ fn print_single(tally: &Tally) {
     line(b"Count: ", tally, COUNT);
     line(b"First: ", tally, FIRST);
     line(b"Number: ", tally, NUMBER);
+    line(b"Cuts that Number reports: ", tally, CUTS);
     line(b"Strip: ", tally, STRIP);
     line(b"Open: ", tally, OPEN);
 }

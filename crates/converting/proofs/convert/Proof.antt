@@ -13,7 +13,7 @@ use Rattle.rules.proofs.Checks.{accepted}
 use Rattle.rules.proofs.Strips.{strip-sum}
 use Rattle.stock.proofs.Tested.{passed}
 use Rattle.converting.specs.Lists.{listOf}
-use Rattle.converting.proofs.Halves.{not-stock, not-held, word-own, converted}
+use Rattle.converting.proofs.Halves.{not-stock, not-held, held-in, word-own, converted}
 use Rattle.converting.proofs.convert.Statement.{statement}
 use Rattle.converting.proofs.convert.Tie as tie
 
@@ -88,6 +88,16 @@ slice-aggregate-number-in c =
     let b = at-blocks p in
     sym (ap length (part b (word p) (own p)) ∙ long b (word p) (own p))
 
+number-in-requires : tie.Need-number-in-requires
+number-in-requires c κs =
+    let p = c .before in
+    let b = at-blocks p in
+    let e = p .before .before .strip-in .ensures in (
+      stock b,
+      rw (part b (word p) (own p)) (own p),
+      held-in (filed b) (listOf (not (filed b)) (counts b)) (counts b) (number b) (stock b) (blank b) (room b ∙ n-is b) _ (e .0) (omega arith) (word p) (e .1) .0,
+    )
+
 returns-3 : tie.Need-returns-3
 returns-3 c =
     let p = c .before .before in
@@ -109,5 +119,5 @@ convert-spec =
     returns-2
     (λ c. inside (at-blocks c) (word c) (own c))
     slice-aggregate-number-in
-    (λ c κs. search needs)
+    number-in-requires
     returns-3)

@@ -18,7 +18,7 @@ returns : tie.Need-returns
 unfolding dictionaryNumberAnswer
 returns c =
     let e = c .before .check-strip .ensures in
-    ap (λ (r : Refusal). record { refusal = r; number = 0 }) e ∙ refused asFiled _ _ _ _ e (omega arith)
+    ap (λ (r : Refusal). record { refusal = r; number = 0 }) e ∙ refused asFiled _ _ 0 _ _ e (omega arith)
 
 -- past them: the stock and the strip are accepted, and 7 decides
 module _ (c : tie.Else1) where
@@ -32,14 +32,14 @@ module _ (c : tie.Else1) where
   place = placeIn (dictionary counts) strip
 
 entry-of-requires : tie.Need-entry-of-requires
-entry-of-requires c κs = good asFiled (counts c) (strip c) (place c) _ (c .before .check-strip .ensures) (omega arith)
+entry-of-requires c κs = good asFiled (counts c) (strip c) 0 (place c) _ (c .before .check-strip .ensures) (omega arith)
 
 returns-2 : tie.Need-returns-2
 unfolding dictionaryNumberAnswer
 returns-2 c =
     let t = c .before .before in
     let b = t .before in
-    many asFiled (counts b) (strip b) (place b) _ (b .before .check-strip .ensures) (omega arith) _ (t .entry-of .ensures .0) (omega arith)
+    many asFiled (counts b) (strip b) 0 (place b) _ (b .before .check-strip .ensures) (omega arith) _ (t .entry-of .ensures .0) (omega arith)
 
 returns-3 : tie.Need-returns-3
 unfolding dictionaryNumberAnswer
@@ -48,8 +48,8 @@ returns-3 c =
     let b = t .before in
     let e = t .entry-of .ensures in
     let i = b .before .check-strip .ensures in
-    ap (asFiled fine) (e .1 (few asFiled (counts b) (strip b) (place b) _ i (omega arith) _ (e .0) (omega arith)))
-    ∙ numbered asFiled (counts b) (strip b) (place b) _ i (omega arith) _ (e .0) (omega arith)
+    ap (asFiled fine) (e .1 (few asFiled (counts b) (strip b) 0 (place b) _ i (omega arith) _ (e .0) (omega arith)))
+    ∙ numbered asFiled (counts b) (strip b) 0 (place b) _ i (omega arith) _ (e .0) (omega arith)
 
 pub dictionary-number-spec : {M : Type 1} → statement M
 dictionary-number-spec = tie.close (tie.spec (λ c κs. search needs) returns entry-of-requires returns-2 returns-3)

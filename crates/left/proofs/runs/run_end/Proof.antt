@@ -3,8 +3,8 @@ use Prim.Native.Nat.{_+_, _-_, _≤_}
 use mathlib.Core.Path.{_≡_}
 use native.Mathlib.Omega.{arith}
 use lib.ListN.{length, drop}
+use Rattle.rules.specs.Book.{letter, pattern}
 use Rattle.rules.proofs.Listed.{like, unlike}
-use Rattle.rules.proofs.Books.{letter, pattern}
 use Rattle.rules.proofs.Runs.{run, run-on, run-stops, run-ends}
 use Rattle.left.proofs.runs.run_end.Statement.{statement}
 use Rattle.left.proofs.runs.run_end.Tie as tie

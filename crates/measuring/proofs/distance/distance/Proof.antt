@@ -76,10 +76,10 @@ unfolding distanceAnswer distanceNos
 returns-3 c =
     let d = c .before .before .before .before .before in
     let b = d .before .before .before .before in
-    let e : c .moves-between .result ≡ between (c .before .before .before .number-of .result) (c .before .number-of2 .result) = c .moves-between .ensures in
+    let e : c .moves-between .result ≡ between (c .before .before .before .number-of .result .number) (c .before .number-of2 .result .number) = c .moves-between .ensures in
     e
-    ∙ ap (λ (from : ℕ). between from (c .before .number-of2 .result)) (c .before .before .before .number-of .ensures)
-    ∙ ap (λ (to : ℕ). between (placeIn (book (counts b)) (one b)) to) (c .before .number-of2 .ensures)
+    ∙ ap (λ (from : ℕ). between from (c .before .number-of2 .result .number)) (c .before .before .before .number-of .ensures .0)
+    ∙ ap (λ (to : ℕ). between (placeIn (book (counts b)) (one b)) to) (c .before .number-of2 .ensures .0)
     ∙ answer-next asApart (pos 0) _ (manyNo (counts b) ∷ []) _ (not-many d)
     ∙ answer-next asApart (pos 0) _ (pairNos (counts b) (one b) (two b)) _ (none-yet b)
 

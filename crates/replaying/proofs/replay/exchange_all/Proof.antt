@@ -23,12 +23,12 @@ number-of-requires c κs =
 slice-write-flags : tie.Need-slice-write-flags Inv-loop μ-loop
 slice-write-flags c =
     let b = c .before .before .before .before .before .before in
-    omega (arith, c .number-of .ensures, place-below (b .args .stock .now) (b .args .strip .now) (b .pre .1 .strip), b .pre .2)
+    omega (arith, c .number-of .ensures .0, place-below (b .args .stock .now) (b .args .strip .now) (b .pre .1 .strip), b .pre .2)
 
 loop-holds : tie.Need-loop-holds Inv-loop μ-loop
 loop-holds c =
     let b = c .before .before .before .before .before .before in
-    start _ _ _ (b .pre .1 .strip) (b .pre .1 .right) (b .args .flags .now) (b .pre .2) (b .pre .3) _ (c .number-of .ensures)
+    start _ _ _ (b .pre .1 .strip) (b .pre .1 .right) (b .args .flags .now) (b .pre .2) (b .pre .3) _ (c .number-of .ensures .0)
 
 exchange-requires : tie.Need-exchange-requires Inv-loop μ-loop
 exchange-requires c κs = pair _ (c .before .before .before .before .before .before .before .before .before .before .before .pre .1 .stock) _ _ _ _ _ _ _ (c .before .before .before .before .loop .inv) (omega arith)
@@ -39,7 +39,7 @@ number-of-requires-2 c κs =
     (p .0, p .1 .stock, rw (c .before .before .before .exchange .ensures) (next-own _ (p .1 .stock) _ _ _ _ _ _ _ (c .before .before .before .before .before .before .before .before .loop .inv) (omega arith)), omega (arith, p .1 .small))
 
 slice-write-flags-2 : tie.Need-slice-write-flags-2 Inv-loop μ-loop
-slice-write-flags-2 c = next-in-room _ (c .before .before .before .before .before .before .before .before .before .before .before .before .before .before .before .before .pre .1 .stock) _ _ _ _ _ _ _ (c .before .before .before .before .before .before .before .before .before .loop .inv) (omega arith) _ (c .before .before .before .before .exchange .ensures) _ (c .number-of2 .ensures)
+slice-write-flags-2 c = next-in-room _ (c .before .before .before .before .before .before .before .before .before .before .before .before .before .before .before .before .pre .1 .stock) _ _ _ _ _ _ _ (c .before .before .before .before .before .before .before .before .before .loop .inv) (omega arith) _ (c .before .before .before .before .exchange .ensures) _ (c .number-of2 .ensures .0)
 
 add-if1 : tie.Need-add-if1 Inv-loop μ-loop
 add-if1 c =
@@ -52,11 +52,11 @@ add-walked c = omega (arith, c .before .before .before .before .before .before .
 
 loop-again : tie.Need-loop-again Inv-loop μ-loop
 loop-again c =
-    on-walked _ (c .before .before .before .before .before .before .before .before .before .before .before .before .before .before .before .before .before .pre .1 .stock) _ _ _ _ _ _ _ (c .before .before .before .before .before .before .before .before .before .before .loop .inv) (omega arith) _ (c .before .before .before .before .before .exchange .ensures) _ (c .before .number-of2 .ensures) (omega arith)
+    on-walked _ (c .before .before .before .before .before .before .before .before .before .before .before .before .before .before .before .before .before .pre .1 .stock) _ _ _ _ _ _ _ (c .before .before .before .before .before .before .before .before .before .before .loop .inv) (omega arith) _ (c .before .before .before .before .before .exchange .ensures) _ (c .before .number-of2 .ensures .0) (omega arith)
 
 loop-again-2 : tie.Need-loop-again-2 Inv-loop μ-loop
 loop-again-2 c =
-    on-other _ (c .before .before .before .before .before .before .before .before .before .before .before .before .before .before .before .before .before .pre .1 .stock) _ _ _ _ _ _ _ (c .before .before .before .before .before .before .before .before .before .before .loop .inv) (omega arith) _ (c .before .before .before .before .before .exchange .ensures) _ (c .before .number-of2 .ensures) (λ e. omega arith)
+    on-other _ (c .before .before .before .before .before .before .before .before .before .before .before .before .before .before .before .before .before .pre .1 .stock) _ _ _ _ _ _ _ (c .before .before .before .before .before .before .before .before .before .before .loop .inv) (omega arith) _ (c .before .before .before .before .before .exchange .ensures) _ (c .before .number-of2 .ensures .0) (λ e. omega arith)
 
 same-length : tie.Need-same-length Inv-loop μ-loop
 same-length c =

@@ -1,0 +1,2 @@
+-- TO BE BELIEVED: the cuts of a strip, and their ceiling.
+pub mod Cuts
