@@ -40,12 +40,12 @@ pub cuts-448-330 : stripCuts (stockOf 49 14) deep ∷ stripCuts (stockOf 50 10) 
 unfolding stripCuts sumOver cuts cutsFromEnd has pattern reduced
 cuts-448-330 = refl
 
--- Number refuses the first stock by 7: T is not below 2^64
+-- T of the two stocks: not below 2^64 of the first, which Number refuses by 7, and below it of the second
 pub totals : map total (stockOf 49 14 ∷ stockOf 50 10 ∷ []) ≡ 208598907329474462760960000 ∷ 16688980681121548800 ∷ []
 unfolding total product binom sum
 totals = refl
 
--- and of 49 1 1 .. 1, of 16 kinds
+-- the ceilings of the two, and of 49 1 1 .. 1, of 16 kinds
 pub ceilings-840 : map ceiling (stockOf 49 14 ∷ stockOf 50 10 ∷ (49 ∷ replicate 15 1) ∷ []) ≡ 840 ∷ 605 ∷ 840 ∷ []
 unfolding ceiling sum sumOver smallestFrom
 ceilings-840 = refl

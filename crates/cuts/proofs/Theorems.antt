@@ -59,7 +59,7 @@ module _ (counts s : List ℕ) (h : IsStrip counts s) where
     word = prefix-word counts s h j l
 
     -- the lowest kind that has blocks is not cut
-    pub lowest-uncut : N counts j ≡ 0 → kindCuts s (suc j) ≡ 0
+    lowest-uncut : N counts j ≡ 0 → kindCuts s (suc j) ≡ 0
     lowest-uncut e = cut-none p (no-R p (word .1 ∙ e))
 
     kind-within : kindCuts s (suc j) ≤ share counts (suc j)

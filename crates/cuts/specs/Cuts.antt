@@ -34,6 +34,7 @@ cutsFromEnd (K ∷ w) = pick (hasBoth (K ∷ w)) (suc (cutsFromEnd w)) 0
 cutsFromEnd (R ∷ []) = 0
 cutsFromEnd (R ∷ x ∷ w) = pick (hasBoth (R ∷ x ∷ w)) (suc (cutsFromEnd w)) 0
 
+-- of a word as it stands
 unfoldable pub cuts : Word → ℕ
 unfolding cutsFromEnd
 cuts w = cutsFromEnd (reverse w)
