@@ -8,6 +8,7 @@
 #include "papers.h"
 #include "replays.h"
 #include "sheets.h"
+#include "strides.h"
 
 int main(int count, char **arguments)
 {
@@ -30,5 +31,6 @@ int main(int count, char **arguments)
     print_papers(works);
     print_sheets(works);
     print_replays();
+    print_strides(works);
     return 0;
 }

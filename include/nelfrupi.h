@@ -39,7 +39,8 @@
  *    5  a byte of a strip is no kind of the stock                       the smallest such place
  *    6  a strip has more or fewer blocks of a kind than its count, as   the smallest such kind
  *       where a byte names a kind whose count is 0
- *    7  T is 2^64 or more                                               0
+ *    7  T is 2^64 or more;                                              0
+ *       in a stride of a sheet                                          the record's first byte, counted from 0
  *    8  the number is T or more                                         0
  *    9  no strip follows in the book, or for going back none precedes;  0
  *       for writing a sheet, fewer strips follow than moves are asked;
@@ -48,12 +49,15 @@
  *   11  a record of a sheet is missing, unknown, out of order or cut    the record's first byte, counted from 0, or
  *       short, a strip's padding is not zero, or bytes follow the end;  that of the first byte after the end
  *       for rebuilding also, the sheet has under 82 bytes               0
- *   12  a move of a sheet is not the next one, or none is left          the record's first byte, counted from 0
- *   13  the buffer for a sheet has under 83 + 3c bytes for c moves      0
+ *   12  a move of a sheet is not the next one, or none is left;         the record's first byte, counted from 0
+ *       a stride passes the last strip
+ *   13  the buffer for a sheet has fewer bytes than it needs: 83 + 3c   0
+ *       for c moves, or 92 for one stride
  *   14  the distance is below -2^63, or above 2^63 - 1                  0
  *   15  T is above 4,096                                                0
  *   16  a pair has a place outside 1 to n, its places are equal or      the smallest such pair's number, counted from 1
  *       fall, or half a pair stands at the end
+ *   17  the number of a stride is below 2                               the record's first byte, counted from 0
  */
 #ifndef NELFRUPI_H
 #define NELFRUPI_H
@@ -277,11 +281,11 @@ nelfrupi_replayed nelfrupi_replay(const uint16_t *stock, size_t kinds, uint8_t *
 
 typedef struct {
     nelfrupi_refusal refusal;
-    uint64_t length; /* the bytes that were written, 83 + 3c */
+    uint64_t length; /* the bytes that were written */
 } nelfrupi_written;
 
-/* Writing: the sheet of a stock, a strip of it and c moves on from there, at the start of the lent sheet, whose later
- * bytes are as they were. The strip is not moved.
+/* Writing: the sheet of a stock, a strip of it and c moves on from there, 83 + 3c bytes, at the start of the lent sheet,
+ * whose later bytes are as they were. The strip is not moved.
  * Refused: 1, 2, 3, 4, 5, 6, 13, 9; the sheet is then as it was. */
 nelfrupi_written nelfrupi_write_sheet(const uint16_t *stock, size_t kinds, const uint8_t *strip, size_t length,
                                       uint64_t moves, uint8_t *sheet, size_t sheet_length);
@@ -291,8 +295,8 @@ typedef struct {
     uint64_t moves; /* c */
 } nelfrupi_readout;
 
-/* Reading: takes exactly the sheets that writing gives, and writes the strip after the last move into the first n bytes
- * of the buffer, whose later bytes are as they were. The buffer has 64 bytes or more.
+/* Reading: takes exactly the sheets that nelfrupi_write_sheet gives, and writes the strip after the last move into the
+ * first n bytes of the buffer, whose later bytes are as they were. The buffer has 64 bytes or more.
  * Refused: 4 for a buffer under 64 bytes; then record by record: 11 for a kind, an order or a body cut short; 1 (no
  * count but 0), 3 in the stock, whose kinds run to the last count that is not 0; 5, 6, then 11 for the padding, in the
  * strip; 12 in a move. A record that is missing is 11 at the sheet's length. The buffer is then as it was.
@@ -310,10 +314,34 @@ typedef struct {
 /* Rebuilding: of a sheet that may be damaged behind its stock and its strip, the proper sheet of c moves, at the start of
  * the second buffer, whose later bytes are as they were. With L bytes lent, c is (L - 82) / 3 rounded down, or the moves
  * left in the book if fewer. A move differed where its three bytes are not those of the damaged sheet at the same offset;
- * the end is written, and not compared. A sheet that reading takes comes out unchanged, with 0 differing.
+ * the end is written, and not compared. A sheet that nelfrupi_read_sheet takes comes out unchanged, with 0 differing.
  * Refused: 11 at 0 for under 82 bytes; then, as in reading, 11, 1, 3 in the stock and 11, 5, 6, 11 in the strip; then 13
  * for a second buffer of under 83 + 3c bytes. The second buffer is then as it was. */
 nelfrupi_rebuilt nelfrupi_rebuild(const uint8_t *sheet, size_t sheet_length, uint8_t *out, size_t out_length);
+
+/* ---- press sheets of edition 2, for long orders
+ *
+ * Edition 2 has one record more, 5 and eight bytes, the stride: a number of 2 or more, highest byte first, of moves on that
+ * are not listed. Where T is below 2^64 it may stand wherever a move may. A sheet without strides is one of both editions.
+ * nelfrupi_read_sheet meets a stride with 11, and nelfrupi_rebuild takes its bytes for damaged moves. */
+
+/* Writing: the sheet of a stock, a strip of it and c moves on from there in its one form, at the start of the lent sheet,
+ * whose later bytes are as they were. Where T is below 2^64 and c is 3 or more, it has one stride and no single moves, 92
+ * bytes, and no move is made; otherwise it is the sheet of nelfrupi_write_sheet. No sheet that nelfrupi_read_editions reads
+ * as the same stock, strip and moves is shorter.
+ * Refused: 1, 2, 3, 4, 5, 6, 13, 9; the sheet is then as it was. */
+nelfrupi_written nelfrupi_write_long(const uint16_t *stock, size_t kinds, const uint8_t *strip, size_t length,
+                                     uint64_t moves, uint8_t *sheet, size_t sheet_length);
+
+/* Reading: takes the sheets of both editions, and answers the moves of all their records together. A stride takes as long
+ * whatever its number is. Otherwise, also in its refusals, it is nelfrupi_read_sheet.
+ * Refused: as nelfrupi_read_sheet; in a stride 11 where it is cut short, then 17, 7, 12, each at the record's first byte. */
+nelfrupi_readout nelfrupi_read_editions(const uint8_t *sheet, size_t sheet_length, uint8_t *buffer, size_t length);
+
+/* Rewriting: of a sheet of either edition, the one form of its stock, its strip and its moves, at the start of the second
+ * buffer, whose later bytes are as they were. A sheet in that form comes out unchanged.
+ * Refused: as nelfrupi_read_editions, without 4; then 13. The second buffer is then as it was. */
+nelfrupi_written nelfrupi_rewrite(const uint8_t *sheet, size_t sheet_length, uint8_t *out, size_t out_length);
 
 #ifdef __cplusplus
 }

@@ -2,7 +2,7 @@
 -- That each call takes any input and comes back is what its own proof says: no call has a `requires`.
 use Prim.Native.Nat.{ℕ}
 use mathlib.Core.Path.{_≡_, ap, _∙_}
-use mathlib.Core.Bool.{Bool, false}
+use mathlib.Core.Bool.{Bool, true, false}
 use mathlib.Core.List.{List}
 use lib.IntN.{pos}
 use contract.Lifetimes.{Lfts}
@@ -90,8 +90,8 @@ use Rattle.endless.proofs.stand.stand.Reads as stand-reads
 use Rattle.endless.proofs.next_paper.next_paper.Kinds as next-paper
 use Rattle.endless.proofs.next_paper.next_paper.Reads as next-paper-reads
 use Rattle.sheets.specs.declared.Written.{Written}
-use Rattle.sheets.specs.Writing.{writeNos, writeAnswer}
-use Rattle.writing.proofs.Theorems.{refused-zero, refused-same}
+use Rattle.sheets.specs.Writing.{putAnswer, writeNos}
+use Rattle.writing.proofs.Theorems.{refused-stays as write-refused-stays}
 use Rattle.writing.proofs.sheet.write_sheet.Kinds as writing
 use Rattle.writing.proofs.sheet.write_sheet.Reads as writing-reads
 use Rattle.following.specs.declared.Readout.{Readout}
@@ -99,11 +99,21 @@ use Rattle.reading.specs.Reading.{readNos, readAnswer}
 use Rattle.reading.proofs.Theorems.{refused-stays}
 use Rattle.reading.proofs.reader.read_sheet.Kinds as reading
 use Rattle.reading.proofs.reader.read_sheet.Reads as reading-reads
+use Rattle.reading.proofs.reader.read_editions.Kinds as read-editions
+use Rattle.reading.proofs.reader.read_editions.Reads as read-editions-reads
 use Rattle.rebuilding.specs.declared.Rebuilt.{Rebuilt}
 use Rattle.rebuilding.specs.Rebuilding.{rebuildNos, rebuildAnswer}
 use Rattle.rebuilding.proofs.Theorems.{refused-stays as rebuild-refused-stays}
 use Rattle.rebuilding.proofs.rebuild.rebuild.Kinds as rebuild
 use Rattle.rebuilding.proofs.rebuild.rebuild.Reads as rebuild-reads
+use Rattle.forms.specs.Forms.{longNos}
+use Rattle.forms.proofs.Theorems.{refused-stays as write-long-refused-stays}
+use Rattle.forms.proofs.long.write_long.Kinds as write-long
+use Rattle.forms.proofs.long.write_long.Reads as write-long-reads
+use Rattle.rewriting.specs.Rewriting.{rewriteNos, rewriteAnswer}
+use Rattle.rewriting.proofs.Theorems.{refused-stays as rewrite-refused-stays}
+use Rattle.rewriting.proofs.rewrite.rewrite.Kinds as rewrite
+use Rattle.rewriting.proofs.rewrite.rewrite.Reads as rewrite-reads
 
 -- ---- Count: 1, 2, 3, 7
 
@@ -247,15 +257,15 @@ next-paper-refuses κs a r s h = record { named = ap (λ (r : Stepped). r .refus
 
 pub write-sheet-refuses : (κs : Lfts 3) (a : Dens κs writing.ps) (r : Written) (s : AtExit (endedOf 3 writing.ps writing.r) κs) → writing-reads.Post κs a r s
     → Refuses (writeNos (a .0 .now) (a .1 .0 .now) (a .1 .1 .0) (a .1 .1 .1 .0 .now)) (r .refusal) ((r .length ≡ 0) × (s .1 .1 .1 .0 .now ≡ a .1 .1 .1 .0 .now))
-unfolding writeAnswer
-write-sheet-refuses κs a r s h = record { named = ap (λ (r : Written). r .refusal) (h .0); left = λ e. (refused-zero κs a r s h e, refused-same κs a r s h e) }
+unfolding putAnswer
+write-sheet-refuses κs a r s h = record { named = ap (λ (r : Written). r .refusal) (h .0); left = write-refused-stays κs a r s h }
 
--- ---- reading a sheet: 4, then record by record. The buffer stays
+-- ---- reading a sheet of edition 1: 4, then record by record. The buffer stays
 
 pub read-sheet-refuses : (κs : Lfts 2) (a : Dens κs reading.ps) (r : Readout) (s : AtExit (endedOf 2 reading.ps reading.r) κs) → reading-reads.Post κs a r s
-    → Refuses (readNos (a .0 .now) (a .1 .0 .now)) (r .refusal) ((r .moves ≡ 0) × (s .1 .0 .now ≡ a .1 .0 .now))
+    → Refuses (readNos false (a .0 .now) (a .1 .0 .now)) (r .refusal) ((r .moves ≡ 0) × (s .1 .0 .now ≡ a .1 .0 .now))
 unfolding readAnswer
-read-sheet-refuses κs a r s h = record { named = ap (λ (r : Readout). r .refusal) (h .0); left = refused-stays κs a r s h }
+read-sheet-refuses κs a r s h = record { named = ap (λ (r : Readout). r .refusal) (h .0); left = refused-stays false _ _ r _ h }
 
 -- ---- rebuilding a sheet: 11 at 0 where it has under 82 bytes; then as reading, without 4, for the stock and the strip; then 13. The second buffer stays
 
@@ -263,3 +273,24 @@ pub rebuild-refuses : (κs : Lfts 2) (a : Dens κs rebuild.ps) (r : Rebuilt) (s 
     → Refuses (rebuildNos (a .0 .now) (a .1 .0 .now)) (r .refusal) ((r .moves ≡ 0) × (r .differing ≡ 0) × (r .first ≡ 0) × (s .1 .0 .now ≡ a .1 .0 .now))
 unfolding rebuildAnswer
 rebuild-refuses κs a r s h = record { named = ap (λ (r : Rebuilt). r .refusal) (h .0); left = rebuild-refused-stays κs a r s h }
+
+-- ---- writing a sheet of edition 2: 1 to 6, 13 by its one form, 9. The sheet stays
+
+pub write-long-refuses : (κs : Lfts 3) (a : Dens κs write-long.ps) (r : Written) (s : AtExit (endedOf 3 write-long.ps write-long.r) κs) → write-long-reads.Post κs a r s
+    → Refuses (longNos (a .0 .now) (a .1 .0 .now) (a .1 .1 .0) (a .1 .1 .1 .0 .now)) (r .refusal) ((r .length ≡ 0) × (s .1 .1 .1 .0 .now ≡ a .1 .1 .1 .0 .now))
+unfolding putAnswer
+write-long-refuses κs a r s h = record { named = ap (λ (r : Written). r .refusal) (h .0); left = write-long-refused-stays κs a r s h }
+
+-- ---- reading a sheet of either edition: 4, then record by record; in a stride 11, 17, 7, 12. The buffer stays
+
+pub read-editions-refuses : (κs : Lfts 2) (a : Dens κs read-editions.ps) (r : Readout) (s : AtExit (endedOf 2 read-editions.ps read-editions.r) κs) → read-editions-reads.Post κs a r s
+    → Refuses (readNos true (a .0 .now) (a .1 .0 .now)) (r .refusal) ((r .moves ≡ 0) × (s .1 .0 .now ≡ a .1 .0 .now))
+unfolding readAnswer
+read-editions-refuses κs a r s h = record { named = ap (λ (r : Readout). r .refusal) (h .0); left = refused-stays true _ _ r _ h }
+
+-- ---- rewriting a sheet: as reading one of either edition, without 4; then 13 by its one form. The second buffer stays
+
+pub rewrite-refuses : (κs : Lfts 2) (a : Dens κs rewrite.ps) (r : Written) (s : AtExit (endedOf 2 rewrite.ps rewrite.r) κs) → rewrite-reads.Post κs a r s
+    → Refuses (rewriteNos (a .0 .now) (a .1 .0 .now)) (r .refusal) ((r .length ≡ 0) × (s .1 .0 .now ≡ a .1 .0 .now))
+unfolding rewriteAnswer
+rewrite-refuses κs a r s h = record { named = ap (λ (r : Written). r .refusal) (h .0); left = rewrite-refused-stays κs a r s h }

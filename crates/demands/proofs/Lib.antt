@@ -11,4 +11,5 @@ pub mod EndlessPapers
 pub mod FootUp
 pub mod ReallyPrinted
 pub mod HowFar
+pub mod LongOrders
 pub mod Outcomes

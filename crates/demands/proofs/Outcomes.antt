@@ -16,8 +16,10 @@ pub use Rattle.exports.proofs.Theorems.{drive-is, drive-one-outcome}
 pub use Rattle.papers.proofs.Theorems.{one-outcome as same-paper-one-outcome}
 pub use Rattle.endless.proofs.Theorems.{stand-one-outcome, next-paper-one-outcome}
 pub use Rattle.writing.proofs.Theorems.{one-outcome as write-sheet-one-outcome}
-pub use Rattle.reading.proofs.Theorems.{one-outcome as read-sheet-one-outcome, one-buffer as read-sheet-one-buffer}
+pub use Rattle.reading.proofs.Theorems.{old-one-outcome as read-sheet-one-outcome, new-one-outcome as read-editions-one-outcome}
 pub use Rattle.rebuilding.proofs.Theorems.{one-outcome as rebuild-one-outcome}
+pub use Rattle.forms.proofs.Theorems.{one-outcome as write-long-one-outcome}
+pub use Rattle.rewriting.proofs.Theorems.{one-outcome as rewrite-one-outcome}
 pub use Rattle.exports.proofs.Outcomes.{count-one-outcome-for-c, first-one-outcome-for-c, number-one-outcome-for-c, strip-one-outcome-for-c}
 pub use Rattle.exports.proofs.Outcomes.{dictionary-number-one-outcome-for-c, dictionary-strip-one-outcome-for-c, dictionary-next-one-outcome-for-c}
 pub use Rattle.exports.proofs.Outcomes.{to-dictionary-one-outcome-for-c, to-book-one-outcome-for-c}
@@ -25,3 +27,4 @@ pub use Rattle.exports.proofs.Outcomes.{which-one-outcome-for-c, distance-one-o
 pub use Rattle.exports.proofs.Outcomes.{stand-one-outcome-for-c, next-paper-one-outcome-for-c}
 pub use Rattle.exports.proofs.Outcomes.{open-one-outcome-for-c, walk-one-outcome-for-c, run-one-outcome-for-c, replay-one-outcome-for-c}
 pub use Rattle.exports.proofs.Outcomes.{write-sheet-one-outcome-for-c, read-sheet-one-outcome-for-c, rebuild-one-outcome-for-c}
+pub use Rattle.exports.proofs.Outcomes.{write-long-one-outcome-for-c, read-editions-one-outcome-for-c, rewrite-one-outcome-for-c}

@@ -25,7 +25,7 @@ pub use Rattle.rules.proofs.SoldOut.{one-pattern}
 pub use Rattle.walker.proofs.Theorems.{each-kind}
 pub use Rattle.rules.proofs.Directions.{book-turns}
 pub use Rattle.walker.proofs.Differing.{one-wrong}
--- a byte that names it meets 6, in a strip and in a sheet; in a sheet 2 is never met, and sixteen zeros are 1, place 0
+-- a byte that names it meets 6, in a strip and in a sheet; in a sheet 2 is never met, and sixteen zeros are 1, place 0, whichever reader reads it
 pub use Rattle.rules.proofs.SoldOut.{sold-out-is-six}
 pub use Rattle.rules.proofs.Marked.{bytes-right}
 pub use Rattle.reading.proofs.Theorems.{sold-out-byte, never-two, sixteen-zeros}

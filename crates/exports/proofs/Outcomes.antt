@@ -16,8 +16,10 @@ use Rattle.replaying.proofs.Theorems.{one-outcome as replay-one-outcome}
 use Rattle.papers.proofs.Theorems.{one-outcome as same-paper-one-outcome}
 use Rattle.endless.proofs.Theorems.{stand-one-outcome, next-paper-one-outcome}
 use Rattle.writing.proofs.Theorems.{one-outcome as write-sheet-one-outcome}
-use Rattle.reading.proofs.Theorems.{one-outcome as read-sheet-one-outcome, one-buffer as read-sheet-one-buffer}
+use Rattle.reading.proofs.Theorems.{old-one-outcome as read-sheet-one-outcome, new-one-outcome as read-editions-one-outcome}
 use Rattle.rebuilding.proofs.Theorems.{one-outcome as rebuild-one-outcome}
+use Rattle.forms.proofs.Theorems.{one-outcome as write-long-one-outcome}
+use Rattle.rewriting.proofs.Theorems.{one-outcome as rewrite-one-outcome}
 use Rattle.exports.proofs.nelfrupi_count.Kinds as count
 use Rattle.exports.proofs.nelfrupi_count.Reads as count-reads
 use Rattle.exports.proofs.nelfrupi_first.Kinds as first
@@ -60,6 +62,12 @@ use Rattle.exports.proofs.nelfrupi_read_sheet.Kinds as read-sheet
 use Rattle.exports.proofs.nelfrupi_read_sheet.Reads as read-sheet-reads
 use Rattle.exports.proofs.nelfrupi_rebuild.Kinds as rebuild
 use Rattle.exports.proofs.nelfrupi_rebuild.Reads as rebuild-reads
+use Rattle.exports.proofs.nelfrupi_write_long.Kinds as write-long
+use Rattle.exports.proofs.nelfrupi_write_long.Reads as write-long-reads
+use Rattle.exports.proofs.nelfrupi_read_editions.Kinds as read-editions
+use Rattle.exports.proofs.nelfrupi_read_editions.Reads as read-editions-reads
+use Rattle.exports.proofs.nelfrupi_rewrite.Kinds as rewrite
+use Rattle.exports.proofs.nelfrupi_rewrite.Reads as rewrite-reads
 
 pub count-one-outcome-for-c : OneAnswer 1 count.ps count.r count-reads.Post
 count-one-outcome-for-c = count-one-outcome
@@ -119,7 +127,16 @@ pub write-sheet-one-outcome-for-c : OneOutcome 3 write-sheet.ps write-sheet.r (�
 write-sheet-one-outcome-for-c = write-sheet-one-outcome
 
 pub read-sheet-one-outcome-for-c : OneOutcome 2 read-sheet.ps read-sheet.r (λ κs s. s .1 .0 .now) read-sheet-reads.Post
-read-sheet-one-outcome-for-c κs a x y s t h k = (read-sheet-one-outcome κs a x y s t h k, read-sheet-one-buffer κs a x y s t h k)
+read-sheet-one-outcome-for-c = read-sheet-one-outcome
 
 pub rebuild-one-outcome-for-c : OneOutcome 2 rebuild.ps rebuild.r (λ κs s. s .1 .0 .now) rebuild-reads.Post
 rebuild-one-outcome-for-c = rebuild-one-outcome
+
+pub write-long-one-outcome-for-c : OneOutcome 3 write-long.ps write-long.r (λ κs s. s .1 .1 .1 .0 .now) write-long-reads.Post
+write-long-one-outcome-for-c = write-long-one-outcome
+
+pub read-editions-one-outcome-for-c : OneOutcome 2 read-editions.ps read-editions.r (λ κs s. s .1 .0 .now) read-editions-reads.Post
+read-editions-one-outcome-for-c = read-editions-one-outcome
+
+pub rewrite-one-outcome-for-c : OneOutcome 2 rewrite.ps rewrite.r (λ κs s. s .1 .0 .now) rewrite-reads.Post
+rewrite-one-outcome-for-c = rewrite-one-outcome

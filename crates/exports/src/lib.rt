@@ -17,6 +17,7 @@ use endless::next_paper::next_paper;
 use endless::stand::Stood;
 use endless::stand::stand;
 use following::Readout;
+use forms::long::write_long;
 use measuring::distance::Apart;
 use measuring::distance::distance;
 use numbering::number::Numbered;
@@ -24,11 +25,13 @@ use numbering::number::number;
 use numbering::strip::strip;
 use papers::Asked;
 use papers::same_paper;
+use reading::reader::read_editions;
 use reading::reader::read_sheet;
 use rebuilding::Rebuilt;
 use rebuilding::rebuild::rebuild;
 use replaying::replay::Replayed;
 use replaying::replay::replay;
+use rewriting::rewrite::rewrite;
 use running::run::Ran;
 use running::run::run;
 use sheets::Written;
@@ -40,6 +43,7 @@ use walking::Moved;
 use walking::walk::walk;
 use writing::sheet::write_sheet;
 ghost use mathlib.Core.Path.{_≡_};
+ghost use mathlib.Core.Bool.{true, false};
 ghost use Rattle.counting.specs.Answers.{countAnswer, firstAnswer, firstAfter};
 ghost use Rattle.numbering.specs.Answers.{numberAnswer, stripAnswer, stripAfter};
 ghost use Rattle.drawers.specs.Answers.{dictionaryNumberAnswer, dictionaryStripAnswer, dictionaryStripAfter, dictionaryNextAnswer, dictionaryNextAfter};
@@ -55,6 +59,8 @@ ghost use Rattle.endless.specs.Answers.{standAnswer, standAfter, nextPaperAnswe
 ghost use Rattle.sheets.specs.Writing.{writeAnswer, writeSheet};
 ghost use Rattle.reading.specs.Reading.{readAnswer, readBuffer};
 ghost use Rattle.rebuilding.specs.Rebuilding.{rebuildAnswer, rebuildOut};
+ghost use Rattle.forms.specs.Forms.{longAnswer, longSheet};
+ghost use Rattle.rewriting.specs.Rewriting.{rewriteAnswer, rewriteOut};
 
 #[no_mangle]
 pub extern "C" fn nelfrupi_count(stock: &[u16]) -> Counted
@@ -211,7 +217,7 @@ pub extern "C" fn nelfrupi_write_sheet(
 
 #[no_mangle]
 pub extern "C" fn nelfrupi_read_sheet(sheet: &[u8], buffer: &mut [u8]) -> Readout
-    ensures { λ r. ⌜ (r ≡ readAnswer (now (sheet .entry)) (now (buffer .entry))) × (now (buffer .exit) ≡ readBuffer (now (sheet .entry)) (now (buffer .entry))) ⌝ }
+    ensures { λ r. ⌜ (r ≡ readAnswer false (now (sheet .entry)) (now (buffer .entry))) × (now (buffer .exit) ≡ readBuffer false (now (sheet .entry)) (now (buffer .entry))) ⌝ }
 {
     read_sheet(sheet, buffer)
 }
@@ -221,4 +227,30 @@ pub extern "C" fn nelfrupi_rebuild(sheet: &[u8], out: &mut [u8]) -> Rebuilt
     ensures { λ r. ⌜ (r ≡ rebuildAnswer (now (sheet .entry)) (now (out .entry))) × (now (out .exit) ≡ rebuildOut (now (sheet .entry)) (now (out .entry))) ⌝ }
 {
     rebuild(sheet, out)
+}
+
+#[no_mangle]
+pub extern "C" fn nelfrupi_write_long(
+    stock: &[u16],
+    strip: &[u8],
+    moves: u64,
+    sheet: &mut [u8],
+) -> Written
+    ensures { λ r. ⌜ (r ≡ longAnswer (now (stock .entry)) (now (strip .entry)) moves (now (sheet .entry))) × (now (sheet .exit) ≡ longSheet (now (stock .entry)) (now (strip .entry)) moves (now (sheet .entry))) ⌝ }
+{
+    write_long(stock, strip, moves, sheet)
+}
+
+#[no_mangle]
+pub extern "C" fn nelfrupi_read_editions(sheet: &[u8], buffer: &mut [u8]) -> Readout
+    ensures { λ r. ⌜ (r ≡ readAnswer true (now (sheet .entry)) (now (buffer .entry))) × (now (buffer .exit) ≡ readBuffer true (now (sheet .entry)) (now (buffer .entry))) ⌝ }
+{
+    read_editions(sheet, buffer)
+}
+
+#[no_mangle]
+pub extern "C" fn nelfrupi_rewrite(sheet: &[u8], out: &mut [u8]) -> Written
+    ensures { λ r. ⌜ (r ≡ rewriteAnswer (now (sheet .entry)) (now (out .entry))) × (now (out .exit) ≡ rewriteOut (now (sheet .entry)) (now (out .entry))) ⌝ }
+{
+    rewrite(sheet, out)
 }

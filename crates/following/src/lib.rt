@@ -1,5 +1,6 @@
-// Following the moves of a press sheet to its end.
+// Following the records of a press sheet from its strip to its end.
 pub mod moves;
+mod record;
 
 use stock::Refusal;
 

@@ -1,18 +1,14 @@
-// Following the moves of a sheet to its end.
+// Following the records of a sheet to its end.
 use crate::Readout;
+use crate::record::take_records;
 use stock::Refusal;
 use walker::Walker;
 use walker::directions::walker_of;
-use walking::Moved;
-use walking::stepping::step;
 ghost use Prim.Native.Nat.{_+_, _<_};
 ghost use mathlib.Core.Path.{_≡_};
-ghost use mathlib.Core.Bool.{_&&_};
-ghost use mathlib.Core.List.{[], _∷_};
-ghost use lib.Dec.{eqb};
+ghost use mathlib.Core.List.{[]};
 ghost use lib.ListN.{length, drop};
 ghost use Rattle.rules.specs.Stock.{IsStock, IsStrip};
-ghost use Rattle.rules.specs.Book.{same};
 ghost use Rattle.walking.specs.Checked.{Checked};
 ghost use Rattle.following.specs.Following.{ended, follow, asReadout};
 ghost use Rattle.following.specs.Ends.{readoutOf, Ends};
@@ -31,7 +27,7 @@ pub fn refused(no: u8, at: usize) -> Readout
 }
 
 // The end at a byte, after so many moves: nothing may follow.
-fn end_at(sheet: &[u8], at: usize, moves: usize) -> Readout
+fn end_at(sheet: &[u8], at: usize, moves: u64) -> Readout
     requires { ⌜ at < length (now sheet) ⌝ }
     ensures { λ r. ⌜ r ≡ readoutOf moves (ended [] at (drop (at + 1) (now (sheet .entry)))) ⌝ }
 {
@@ -41,61 +37,53 @@ fn end_at(sheet: &[u8], at: usize, moves: usize) -> Readout
     }
     Readout {
         refusal: Refusal { no: 0, place: 0 },
-        moves: moves as u64,
+        moves,
     }
 }
 
-// Whether a move was made and exchanged these two places.
-fn is_move(made: Moved, low: u8, high: u8) -> bool
-    ensures { λ r. ⌜ r ≡ (eqb (made .refusal .no) 0 && same (made .low ∷ made .high ∷ []) (low ∷ high ∷ [])) ⌝ }
-{
-    let refusal = made.refusal;
-    let no = refusal.no;
-    if no != 0 {
-        return false;
-    }
-    if made.low != low {
-        return false;
-    }
-    made.high == high
-}
-
-// Follows the records from a byte on: each move is the next one of the strip, then the end.
-fn follow_on(sheet: &[u8], from: usize, stock: &[u16], strip: &mut [u8], walker: Walker) -> Readout
+// Follows the records from a byte on, with strides in edition 2: each goes on from where the strip then stands, then the end.
+fn follow_on(
+    sheet: &[u8],
+    from: usize,
+    stock: &[u16],
+    strip: &mut [u8],
+    walker: Walker,
+    strides: bool,
+) -> Readout
     requires { ⌜ Checked (now stock) (now strip) walker ⌝ }
-    ensures { λ r. ⌜ Ends (follow (now (stock .entry)) (now (strip .entry)) from (drop from (now (sheet .entry)))) r (now (strip .exit)) ⌝ }
+    ensures { λ r. ⌜ Ends (follow strides (now (stock .entry)) (now (strip .entry)) from (drop from (now (sheet .entry)))) r (now (strip .exit)) ⌝ }
 {
     let mut walker = walker;
     let mut at = from;
-    let mut moves: usize = 0;
+    let mut moves: u64 = 0;
     while at < sheet.len() {
-        let kind = sheet[at];
-        if kind == 4 {
+        if sheet[at] == 4 {
             return end_at(sheet, at, moves);
         }
-        if kind != 3 {
-            return refused(11, at);
+        let taken = take_records(sheet, at, stock, strip, walker, strides);
+        let no = taken.no;
+        at += taken.bytes;
+        if no != 0 {
+            return refused(no, at);
         }
-        if sheet.len() - at < 3 {
-            return refused(11, at);
-        }
-        let made = step(stock, strip, walker, false);
-        if !is_move(made, sheet[at + 1], sheet[at + 2]) {
-            return refused(12, at);
-        }
-        let next = made.walker;
+        let next = taken.walker;
         walker = next;
-        at += 3;
-        moves += 1;
+        moves += taken.moves;
     }
     refused(11, at)
 }
 
 // The same from a strip whose walker is not known yet.
-pub fn follow_from(sheet: &[u8], from: usize, stock: &[u16], strip: &mut [u8]) -> Readout
+pub fn follow_from(
+    sheet: &[u8],
+    from: usize,
+    stock: &[u16],
+    strip: &mut [u8],
+    strides: bool,
+) -> Readout
     requires { ⌜ IsStock (now stock) × IsStrip (now stock) (now strip) ⌝ }
-    ensures { λ r. ⌜ Ends (follow (now (stock .entry)) (now (strip .entry)) from (drop from (now (sheet .entry)))) r (now (strip .exit)) ⌝ }
+    ensures { λ r. ⌜ Ends (follow strides (now (stock .entry)) (now (strip .entry)) from (drop from (now (sheet .entry)))) r (now (strip .exit)) ⌝ }
 {
     let walker = walker_of(stock, strip);
-    follow_on(sheet, from, stock, strip, walker)
+    follow_on(sheet, from, stock, strip, walker, strides)
 }

@@ -3,7 +3,10 @@ mod ReadOn
 mod Joined
 mod Padding
 mod Shape
-mod MoveRecords
+pub mod MoveRecords
+pub mod Right
+pub mod Parting
 pub mod Exactly
 pub mod SoldOut
 pub mod Theorems
+pub mod Editions

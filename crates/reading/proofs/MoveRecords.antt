@@ -1,26 +1,32 @@
--- Proofs. The move records of a sheet and what following them comes to: the records of c moves lead c strips on, and records that are followed to the end are those.
-use Prim.Native.Nat.{ℕ, zero, suc, _+_, _≤_}
+-- Proofs. The records of c moves, and a stride of n, and what following them comes to: they lead c strips on, or n, whatever stands behind them.
+use Prim.Native.Nat.{ℕ, zero, suc, _+_, _*_, _^_, _≤_, _<_}
 use mathlib.Core.Path.{_≡_, refl, sym, ap, _∙_}
-use mathlib.Core.Bool.{Bool, true, false}
+use mathlib.Core.Bool.{Bool, true, false, and-false}
 use mathlib.Core.List.{List, [], _∷_, _++_, append-nil, append-assoc}
 use native.Mathlib.Decide.{ℕ-discrete}
 use native.Mathlib.Omega.{arith}
-use borrow.Author.Tests.{eq-eqb, ne-eqb}
-use Rattle.rules.specs.Stock.{IsStrip}
-use Rattle.rules.specs.Book.{same}
+use lib.ListN.{length, take, drop, length-append, length-take}
+use lib.Seq.{take-at, drop-at}
+use Rattle.rules.specs.Stock.{total, IsStrip}
 use Rattle.rules.specs.Neighbours.{places}
 use Rattle.rules.specs.Refusals.{fine}
 use Rattle.rules.proofs.Neighbours.{no-places}
-use Rattle.rules.proofs.Places.{same-self, same-true}
-use Rattle.walking.specs.Answers.{onward, left}
+use Rattle.rules.proofs.Places.{same-self, place-below}
+use Rattle.walking.specs.Answers.{leftAlong, onward, left}
 use Rattle.walking.proofs.Along.{past-last, two-places, along-none, along-strip, along-left, along-further}
 use Rattle.sheets.specs.Sheets.{moveRecords}
-use Rattle.following.specs.Following.{Followed, refusedAt, oneMore, ended, ifNext, follow}
-use Rattle.following.proofs.Steps.{not-move, short-move, whole-move}
+use Rattle.strides.specs.Strides.{value, bytesOf, strideRecord}
+use Rattle.strides.proofs.Values.{value-bytes, bytes-long}
+use Rattle.strides.proofs.Rows.{rows-fine}
+use Rattle.following.specs.Following.{Followed, more, ifMade, nextNo, follow}
+use Rattle.following.proofs.Steps.{passed, not-move, whole-move, whole-stride, more-none, more-more}
+
+pub pair-long : (rest : List ℕ) → 2 ≤ length rest → length (take 2 rest) ≡ 2
+pair-long rest two = simp length-take (omega arith)
 
 module _ (counts s : List ℕ) (h : IsStrip counts s) (some : 1 ≤ left counts s) where
   -- from the next strip it is one number less
-  pub onward-onward : (i : ℕ) → onward counts (onward counts s 1) i ≡ onward counts s (suc i)
+  onward-onward : (i : ℕ) → onward counts (onward counts s 1) i ≡ onward counts s (suc i)
   onward-onward i = let e : 1 + i ≡ suc i = omega arith in along-further false counts s h 1 some i ∙ rw e
 
   -- the first record, then those from the next strip
@@ -29,87 +35,58 @@ module _ (counts s : List ℕ) (h : IsStrip counts s) (some : 1 ≤ left counts 
   front zero = rw (along-none false counts s h) (sym (append-nil (3 ∷ places s (onward counts s 1))))
   front (suc c) = rw (front c, onward-onward c, onward-onward (suc c)) (append-assoc (3 ∷ places s (onward counts s 1)) (moveRecords counts (onward counts s 1) c) _)
 
--- ---- the records of c moves, and then the end
+-- two places that are those of the next move: one is left
+pub next-left : (counts s rest : List ℕ) → IsStrip counts s → 2 ≤ length rest → places s (onward counts s 1) ≡ take 2 rest → 1 ≤ left counts s
+next-left counts s rest h two e = elim (ℕ-discrete (left counts s) 0) [
+  | yes z ↦ absurd (omega (arith, pair-long rest two, ap length (rw (past-last counts s h z, no-places 1 s) at e)))
+  | no z ↦ omega arith
+]
 
-records-none : (counts s : List ℕ) → moveRecords counts s 0 ≡ []
+pub records-none : (counts s : List ℕ) → moveRecords counts s 0 ≡ []
 unfolding moveRecords
 records-none counts s = refl
 
-module _ (counts : List ℕ) where
-  pub follow-written : (c : ℕ) (s : List ℕ) → IsStrip counts s → c ≤ left counts s → (at : ℕ)
-      → follow counts s at (moveRecords counts s c ++ (4 ∷ [])) ≡ record { no = fine; moves = c; strip = onward counts s c }
-  follow-written zero s h l at = rw (records-none counts s, along-none false counts s h) (not-move counts s at 4 (λ z. omega arith) [])
-  follow-written (suc c) s h l at =
+more-one : (c : ℕ) (f : Followed) → more 1 (more c f) ≡ more (suc c) f
+more-one c f = let e : 1 + c ≡ suc c = omega arith in more-more 1 c f ∙ rw e
+
+module _ (strides : Bool) (counts : List ℕ) where
+  -- a whole move record, and what stands behind it
+  move-behind : (s : List ℕ) (at p q : ℕ) (rest : List ℕ) → follow strides counts s at (3 ∷ p ∷ q ∷ rest) ≡ ifMade (nextNo s (onward counts s 1) (p ∷ q ∷ [])) 1 at (follow strides counts (onward counts s 1) (at + 3) rest)
+  move-behind s at p q rest =
+      let f : at + 1 + 2 ≡ at + 3 = omega arith in
+      whole-move strides counts s at 3 (p ∷ q ∷ rest) refl (omega arith) ∙ rw (passed strides counts (onward counts s 1) 2 (at + 1) (p ∷ q ∷ rest) (omega arith), f)
+
+  pub end-alone : (s : List ℕ) (at : ℕ) → follow strides counts s at (4 ∷ []) ≡ record { no = fine; moves = 0; strip = s }
+  end-alone s at = not-move strides counts s at 4 [] (λ z. omega arith) (and-false strides)
+
+  -- the records of c moves, and then what follows them
+  pub follow-moves : (c : ℕ) (s : List ℕ) → IsStrip counts s → c ≤ left counts s → (at : ℕ) (rest : List ℕ)
+      → follow strides counts s at (moveRecords counts s c ++ rest) ≡ more c (follow strides counts (onward counts s c) (at + 3 * c) rest)
+  follow-moves zero s h l at rest =
+      let e : at + 3 * 0 ≡ at = omega arith in
+      rw (records-none counts s, along-none false counts s h, e) (more-none (follow strides counts s at rest))
+  follow-moves (suc c) s h l at rest =
       let some : 1 ≤ left counts s = omega arith in
       let t = onward counts s 1 in
       let two = two-places false counts s h some in
       let e = two .2 in
-      let later = follow-written c t (along-strip false counts s h 1 some) (omega (arith, along-left false counts s h 1 some)) (at + 3) in
-      rw (front counts s h some c, e) (whole-move counts s at 3 refl _ _ (moveRecords counts t c ++ (4 ∷ [])) ∙ rw (e, same-self (two .0 ∷ two .1 ∷ []), later, onward-onward counts s h some c))
+      let f : at + 3 + 3 * c ≡ at + 3 * suc c = omega arith in
+      let later = follow-moves c t (along-strip false counts s h 1 some) (omega (arith, along-left false counts s h 1 some)) (at + 3) rest in
+      rw (front counts s h some c, e) (move-behind s at (two .0) (two .1) (moveRecords counts t c ++ rest) ∙ rw (e, same-self (two .0 ∷ two .1 ∷ []), later, onward-onward counts s h some c, f) (more-one c _))
 
-  -- and back: what is followed to the end without a refusal is those records
-  pub record Traced (s l : List ℕ) (f : Followed) : Type 0 where
-    pub sheet : l ≡ moveRecords counts s (f .moves) ++ (4 ∷ [])
-    pub within : f .moves ≤ left counts s
-    pub strip : f .strip ≡ onward counts s (f .moves)
-    pub none : f .no ≡ fine
+  pub follow-written : (c : ℕ) (s : List ℕ) → IsStrip counts s → c ≤ left counts s → (at : ℕ)
+      → follow strides counts s at (moveRecords counts s c ++ (4 ∷ [])) ≡ record { no = fine; moves = c; strip = onward counts s c }
+  follow-written c s h l at =
+      follow-moves c s h l at (4 ∷ []) ∙ rw (end-alone (onward counts s c) (at + 3 * c)) (ap (λ (m : ℕ). record { no = fine; moves = m; strip = onward counts s c }) (omega arith))
 
-  -- no refusal is none with a number
-  not-refused : (f : Followed) (n at : ℕ) → f ≡ refusedAt (suc n) at → f .no .0 ≡ 0 → ⊥
-  not-refused f n at e z = omega (arith, ap (λ (f : Followed). f .no .0) e, z)
-
-  at-end : (s : List ℕ) → IsStrip counts s → (at : ℕ) (rest : List ℕ) → ended s at rest .no .0 ≡ 0 → Traced s (4 ∷ rest) (ended s at rest)
-  at-end s h at [] z = record { sheet = rw (records-none counts s); within = omega arith; strip = sym (along-none false counts s h); none = refl }
-  at-end s h at (x ∷ rest) z = absurd (omega arith)
-
-  no-move : (kind : ℕ) → (kind ≡ 3 → ⊥) → (rest s : List ℕ) → IsStrip counts s → (at : ℕ) → follow counts s at (kind ∷ rest) .no .0 ≡ 0 → Traced s (kind ∷ rest) (follow counts s at (kind ∷ rest))
-  no-move kind k rest s h at z = elim (ℕ-discrete kind 4) [
-    | yes e ↦
-        let f : follow counts s at (kind ∷ rest) ≡ ended s at rest = not-move counts s at kind k rest ∙ rw (eq-eqb kind 4 e) in
-        rw (f, e) (at-end s h at rest (rw f at z))
-    | no e ↦ absurd (not-refused _ 10 at (not-move counts s at kind k rest ∙ rw (ne-eqb kind 4 e)) z)
-  ]
-
-  -- a move record that is the next move, with what is traced of the rest
-  module _ (p q : ℕ) (rest s : List ℕ) (h : IsStrip counts s) (at : ℕ) where
-    moved : (f : Followed) → places s (onward counts s 1) ≡ p ∷ q ∷ [] → (IsStrip counts (onward counts s 1) → Traced (onward counts s 1) rest f) → Traced s (3 ∷ p ∷ q ∷ rest) (oneMore f)
-    moved f e later =
-        let some : 1 ≤ left counts s = elim (ℕ-discrete (left counts s) 0) [
-          | yes z ↦ let n : _≡_ {A = ℕ} 0 1 = cc (rw (past-last counts s h z, no-places 1 s) at e) in absurd (omega arith)
-          | no z ↦ omega arith
-        ] in
-        let r = later (along-strip false counts s h 1 some) in
-        record {
-          sheet = rw (front counts s h some (f .moves), e) (ap (λ (l : List ℕ). 3 ∷ p ∷ q ∷ l) (r .sheet));
-          within = omega (arith, r .within, along-left false counts s h 1 some);
-          strip = r .strip ∙ onward-onward counts s h some (f .moves);
-          none = r .none;
-        }
-
-    by-places : (b : Bool) → same (places s (onward counts s 1)) (p ∷ q ∷ []) ≡ b → (f : Followed) → ifNext b at f .no .0 ≡ 0 → (IsStrip counts (onward counts s 1) → f .no .0 ≡ 0 → Traced (onward counts s 1) rest f)
-        → Traced s (3 ∷ p ∷ q ∷ rest) (ifNext b at f)
-    by-places true e f z later = moved f (same-true (places s (onward counts s 1)) (p ∷ q ∷ []) e) (λ k. later k z)
-    by-places false e f z later = absurd (omega arith)
-
-  follow-nothing : (s : List ℕ) (at : ℕ) → follow counts s at [] ≡ refusedAt 11 at
-  unfolding follow
-  follow-nothing s at = refl
-
-  pub traced : (l s : List ℕ) → IsStrip counts s → (at : ℕ) → follow counts s at l .no .0 ≡ 0 → Traced s l (follow counts s at l)
-  traced [] s h at z = absurd (not-refused _ 10 at (follow-nothing s at) z)
-  traced (kind ∷ []) s h at z = elim (ℕ-discrete kind 3) [
-    | yes e ↦ absurd (not-refused _ 10 at (short-move counts s at kind e [] (omega arith)) z)
-    | no e ↦ no-move kind e [] s h at z
-  ]
-  traced (kind ∷ p ∷ []) s h at z = elim (ℕ-discrete kind 3) [
-    | yes e ↦ absurd (not-refused _ 10 at (short-move counts s at kind e (p ∷ []) (omega arith)) z)
-    | no e ↦ no-move kind e (p ∷ []) s h at z
-  ]
-  traced (kind ∷ p ∷ q ∷ rest) s h at z = go (traced rest (onward counts s 1)) (ℕ-discrete kind 3)
-    where
-      go : (IsStrip counts (onward counts s 1) → (at : ℕ) → follow counts (onward counts s 1) at rest .no .0 ≡ 0 → Traced (onward counts s 1) rest (follow counts (onward counts s 1) at rest))
-          → Dec (kind ≡ 3) → Traced s (kind ∷ p ∷ q ∷ rest) (follow counts s at (kind ∷ p ∷ q ∷ rest))
-      go later (no e) = no-move kind e (p ∷ q ∷ rest) s h at z
-      go later (yes e) =
-          let f = whole-move counts s at kind e p q rest in
-          rw (f, e) (by-places p q rest s h at _ refl (follow counts (onward counts s 1) (at + 3) rest) (rw f at z) (λ k y. later k (at + 3) y))
+-- a stride where one is allowed, and then what follows it
+pub follow-stride : (counts : List ℕ) (n : ℕ) (s : List ℕ) → IsStrip counts s → 2 ≤ n → total counts < 2 ^ 64 → n ≤ left counts s → (at : ℕ) (rest : List ℕ)
+    → follow true counts s at (strideRecord n ++ rest) ≡ more n (follow true counts (onward counts s n) (at + 9) rest)
+unfolding strideRecord leftAlong
+follow-stride counts n s h two few l at rest =
+    let body = bytesOf 8 n in
+    let long : length (body ++ rest) ≡ 8 + length rest = length-append body rest ∙ rw (bytes-long 8 n) in
+    let e : value (take 8 (body ++ rest)) ≡ n = ap value (take-at body rest 8 (bytes-long 8 n)) ∙ value-bytes 8 n (omega (arith, place-below counts s h)) in
+    let f : drop 8 (body ++ rest) ≡ rest = drop-at body rest 8 (bytes-long 8 n) in
+    let g : at + 1 + 8 ≡ at + 9 = omega arith in
+    whole-stride true counts s at 5 (body ++ rest) refl refl (omega arith) ∙ rw (e, rows-fine counts s n two few l, passed true counts (onward counts s n) 8 (at + 1) (body ++ rest) (omega arith), f, g)

@@ -1,7 +1,7 @@
 -- Proofs. A sheet whose stock has counts of 0: 2 is never met, sixteen zeros are 1, and a byte of the strip that names a kind without blocks is 6.
 use Prim.Native.Nat.{ℕ, suc, _+_, _≤_, _<_}
 use mathlib.Core.Path.{_≡_, refl, ap, _∙_}
-use mathlib.Core.Bool.{not, _||_}
+use mathlib.Core.Bool.{Bool, not, _||_}
 use mathlib.Core.List.{List, [], _∷_, _++_}
 use native.Mathlib.Omega.{arith}
 use lib.Dec.{eqb, ltb}
@@ -16,7 +16,7 @@ use Rattle.rules.proofs.SoldOut.{sold-out-miscounted}
 use Rattle.records.specs.Records.{used, sheetStock, stripBody, sheetStrip, recordNo, paddingNo, firstTwoNos}
 use Rattle.records.proofs.BodyLaws.{record-there}
 use Rattle.following.proofs.Steps.{follow-is}
-use Rattle.reading.specs.Reading.{followed, readNos}
+use Rattle.reading.specs.Reading.{followed, recordNos, readNos}
 use Rattle.reading.proofs.Padding.{used-ends}
 
 -- ---- 2
@@ -52,9 +52,10 @@ padding-not-two : (sheet : List ℕ) → NotTwo (paddingNo sheet .0)
 unfolding paddingNo
 padding-not-two sheet = let rest = drop (sum (sheetStock sheet)) (stripBody sheet) in when-is NotTwo none 11 17 (λ e. omega arith) (not (same rest (replicate (length rest) 0)))
 
-followed-not-two : (sheet : List ℕ) → NotTwo (followed sheet .no .0)
+followed-not-two : (strides : Bool) (sheet : List ℕ) → NotTwo (followed strides sheet .no .0)
 unfolding followed
-followed-not-two sheet = follow-is NotTwo none (λ e. omega arith) (λ e. omega arith) (sheetStock sheet) (sheetStrip sheet) 82 (drop 82 sheet)
+followed-not-two strides sheet =
+    follow-is NotTwo none (λ e. omega arith) (λ e. omega arith) (λ e. omega arith) (λ e. omega arith) strides (sheetStock sheet) (sheetStrip sheet) 82 (drop 82 sheet)
 
 -- of the first two records, whoever reads them
 pub first-two-not-two : (sheet : List ℕ) → NotTwo (firstOf (firstTwoNos sheet) .0)
@@ -69,31 +70,31 @@ first-two-not-two sheet =
     (row-is NotTwo none _ _ (amount-is NotTwo none counts (λ e. omega arith) s)
     (row-is NotTwo none _ [] (padding-not-two sheet) (end-is NotTwo none))))))
 
-pub two-never : (sheet buffer : List ℕ) → firstOf (readNos sheet buffer) .0 ≡ 2 → ⊥
-unfolding readNos
-two-never sheet buffer =
+pub two-never : (strides : Bool) (sheet buffer : List ℕ) → firstOf (readNos strides sheet buffer) .0 ≡ 2 → ⊥
+unfolding readNos recordNos
+two-never strides sheet buffer =
     row-is NotTwo none _ _ (when-is NotTwo none 4 0 (λ e. omega arith) (ltb (length buffer) 64))
-    (both-is NotTwo none (firstTwoNos sheet) _ (first-two-not-two sheet) (row-is NotTwo none _ [] (followed-not-two sheet) (end-is NotTwo none)))
+    (both-is NotTwo none (firstTwoNos sheet) _ (first-two-not-two sheet) (row-is NotTwo none _ [] (followed-not-two strides sheet) (end-is NotTwo none)))
 
 -- ---- sixteen zeros
 
-zeros-first : (buffer rest : List ℕ) → 64 ≤ length buffer → firstOf (readNos ((1 ∷ replicate 16 0) ++ rest) buffer) ≡ (1, 0)
-unfolding readNos firstTwoNos sheetStock used stockNos firstOf
-zeros-first buffer rest room = rw (le-ltb (length buffer) 64 room, ← record-there 1 16 0 ((1 ∷ replicate 16 0) ++ rest) refl (omega arith))
+zeros-first : (strides : Bool) (buffer rest : List ℕ) → 64 ≤ length buffer → firstOf (readNos strides ((1 ∷ replicate 16 0) ++ rest) buffer) ≡ (1, 0)
+unfolding readNos recordNos firstTwoNos sheetStock used stockNos firstOf
+zeros-first strides buffer rest room = rw (le-ltb (length buffer) 64 room, ← record-there 1 16 0 ((1 ∷ replicate 16 0) ++ rest) refl (omega arith))
 
-pub zeros-are-one : (sheet buffer : List ℕ) → 64 ≤ length buffer → take 17 sheet ≡ 1 ∷ replicate 16 0 → firstOf (readNos sheet buffer) ≡ (1, 0)
-zeros-are-one sheet buffer room h =
+pub zeros-are-one : (strides : Bool) (sheet buffer : List ℕ) → 64 ≤ length buffer → take 17 sheet ≡ 1 ∷ replicate 16 0 → firstOf (readNos strides sheet buffer) ≡ (1, 0)
+zeros-are-one strides sheet buffer room h =
     let e : (1 ∷ replicate 16 0) ++ drop 17 sheet ≡ sheet = rw h at (take-append-drop 17 sheet) in
-    rw e at (zeros-first buffer (drop 17 sheet) room)
+    rw e at (zeros-first strides buffer (drop 17 sheet) room)
 
 -- ---- a byte of a kind without blocks
 
 -- every row before 6 passed
-module _ (sheet buffer : List ℕ) (room : 64 ≤ length buffer) (first : recordNo 1 16 0 sheet .0 ≡ 0) (stock : IsStock (sheetStock sheet))
+module _ (strides : Bool) (sheet buffer : List ℕ) (room : 64 ≤ length buffer) (first : recordNo 1 16 0 sheet .0 ≡ 0) (stock : IsStock (sheetStock sheet))
     (second : recordNo 2 64 17 sheet .0 ≡ 0) (own : smallest (isStranger (sheetStock sheet)) (sheetStrip sheet) ≡ 0) where
   pub sold-out-read : (i j : ℕ) → i < length (sheetStrip sheet) → getD (sheetStrip sheet) i 0 ≡ suc j → j < length (sheetStock sheet) → getD (sheetStock sheet) j 0 ≡ 0
-      → firstOf (readNos sheet buffer) .0 ≡ 6
-  unfolding readNos firstTwoNos
+      → firstOf (readNos strides sheet buffer) .0 ≡ 6
+  unfolding readNos recordNos firstTwoNos
   sold-out-read i j inside names kind none =
       let p = smallest (isMiscounted (sheetStrip sheet)) (sheetStock sheet) in
       let four : when 4 (ltb (length buffer) 64) .0 ≡ 0 = rw (le-ltb (length buffer) 64 room) in
@@ -105,4 +106,4 @@ module _ (sheet buffer : List ℕ) (room : 64 ≤ length buffer) (first : record
       ∙ at-place 5 _ p (sold-out-miscounted (sheetStock sheet) (sheetStrip sheet) i j inside names kind none)
       in
       let refused : firstOf (firstTwoNos sheet) .0 ≡ 0 → ⊥ = λ z. omega (arith, ap (λ (r : No). r .0) six) in
-      ap (λ (r : No). r .0) (first-passed _ _ four ∙ refused-first (firstTwoNos sheet) (followed sheet .no ∷ []) refused ∙ six)
+      ap (λ (r : No). r .0) (first-passed _ _ four ∙ refused-first (firstTwoNos sheet) (followed strides sheet .no ∷ []) refused ∙ six)

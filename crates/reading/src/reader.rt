@@ -5,6 +5,7 @@ use following::Readout;
 use records::opening::Opening;
 use records::opening::opening_at;
 ghost use mathlib.Core.Path.{_≡_};
+ghost use mathlib.Core.Bool.{true, false};
 ghost use Rattle.records.specs.Opened.{Opened, Ready};
 ghost use Rattle.reading.specs.Reading.{readAnswer, readBuffer};
 ghost use Rattle.reading.specs.Halves.{movesAnswer, movesBuffer};
@@ -28,18 +29,37 @@ fn read_opening<'a>(reader: Reader<'a>) -> Opening
     opening_at(reader.sheet, reader.at)
 }
 
-// Reads on from the reader's place to the end, and writes the final strip.
-fn read_moves<'a, 'b>(reader: Reader<'a>, opening: Opening, buffer: &'b mut [u8]) -> Readout
+// Reads on from the reader's place to the end, with strides or without, and writes the final strip.
+fn read_moves<'a, 'b>(
+    reader: Reader<'a>,
+    opening: Opening,
+    buffer: &'b mut [u8],
+    strides: bool,
+) -> Readout
     requires { ⌜ Ready opening ⌝ }
-    ensures { λ r. ⌜ (r ≡ movesAnswer (reader .entry .at) (now (reader .entry .sheet)) opening (now (buffer .entry))) × (now (buffer .exit) ≡ movesBuffer (reader .entry .at) (now (reader .entry .sheet)) opening (now (buffer .entry))) ⌝ }
+    ensures { λ r. ⌜ (r ≡ movesAnswer strides (reader .entry .at) (now (reader .entry .sheet)) opening (now (buffer .entry))) × (now (buffer .exit) ≡ movesBuffer strides (reader .entry .at) (now (reader .entry .sheet)) opening (now (buffer .entry))) ⌝ }
 {
-    moves_at(reader.sheet, reader.at, opening, buffer)
+    moves_at(reader.sheet, reader.at, opening, buffer, strides)
 }
 
-// Reading a sheet: its moves, and the final strip in the first bytes of the buffer.
-pub fn read_sheet(sheet: &[u8], buffer: &mut [u8]) -> Readout
-    ensures { λ r. ⌜ (r ≡ readAnswer (now (sheet .entry)) (now (buffer .entry))) × (now (buffer .exit) ≡ readBuffer (now (sheet .entry)) (now (buffer .entry))) ⌝ }
+// Reads a whole sheet, with strides or without.
+fn read_whole(sheet: &[u8], buffer: &mut [u8], strides: bool) -> Readout
+    ensures { λ r. ⌜ (r ≡ readAnswer strides (now (sheet .entry)) (now (buffer .entry))) × (now (buffer .exit) ≡ readBuffer strides (now (sheet .entry)) (now (buffer .entry))) ⌝ }
 {
     let opening = read_opening(reader_at(sheet, 0));
-    read_moves(reader_at(sheet, 82), opening, buffer)
+    read_moves(reader_at(sheet, 82), opening, buffer, strides)
+}
+
+// Reading a sheet of edition 1: its moves, and the final strip in the first bytes of the buffer.
+pub fn read_sheet(sheet: &[u8], buffer: &mut [u8]) -> Readout
+    ensures { λ r. ⌜ (r ≡ readAnswer false (now (sheet .entry)) (now (buffer .entry))) × (now (buffer .exit) ≡ readBuffer false (now (sheet .entry)) (now (buffer .entry))) ⌝ }
+{
+    read_whole(sheet, buffer, false)
+}
+
+// Reading a sheet of either edition: the total of its moves, and the final strip in the first bytes of the buffer.
+pub fn read_editions(sheet: &[u8], buffer: &mut [u8]) -> Readout
+    ensures { λ r. ⌜ (r ≡ readAnswer true (now (sheet .entry)) (now (buffer .entry))) × (now (buffer .exit) ≡ readBuffer true (now (sheet .entry)) (now (buffer .entry))) ⌝ }
+{
+    read_whole(sheet, buffer, true)
 }

@@ -1,7 +1,8 @@
 -- Theorems on rebuilding, over its contract as the function states it: `Post` says which answers it allows for which input, and what it leaves in the second
 -- buffer. Where writing or reading a sheet comes in, over their contracts too.
 use Prim.Native.Nat.{ℕ, suc, _+_, _-_, _*_, _/_, _≤_, _<_, min}
-use mathlib.Core.Path.{_≡_, sym, ap, _∙_}
+use mathlib.Core.Path.{_≡_, refl, sym, ap, _∙_}
+use mathlib.Core.Bool.{false}
 use mathlib.Core.List.{List, [], _∷_, _++_}
 use native.Mathlib.Omega.{arith}
 use borrow.Author.Tests.{ltb-false, le-ltb}
@@ -34,7 +35,7 @@ use Rattle.rebuilding.specs.declared.Rebuilt.{Rebuilt}
 use Rattle.rebuilding.specs.Rebuilding.{rebuiltMoves, properSheet, bytesBehind, differing, rebuildNos, asRebuilt, rebuildAnswer, rebuildOut}
 use Rattle.rebuilding.proofs.Numbers.{few, first-none, none-first, all-same, first-differs}
 use Rattle.rebuilding.proofs.Called.{front-is}
-use Rattle.rebuilding.proofs.Unchanged.{writes-long, proper-writes, unchanged}
+use Rattle.rebuilding.proofs.Unchanged.{writes-long, proper-writes, proper-kind, other-kind, unchanged}
 use Rattle.rebuilding.proofs.rebuild.rebuild.Kinds as rebuild
 use Rattle.rebuilding.proofs.rebuild.rebuild.Reads as reads
 
@@ -132,6 +133,12 @@ module _ (κs : Lfts 2) (a : Dens κs rebuild.ps) (r : Rebuilt) (t : AtExit (end
     pub none-right : r .differing ≡ 0 → (j : ℕ) → j < r .moves → bytesBehind j (properSheet sheet) ≡ bytesBehind j sheet
     none-right f = rw moves-named (all-same (properSheet sheet) sheet (rebuiltMoves sheet) (sym (differing-is .0) ∙ f))
 
+    -- a record 5 where a move has its own is damage (P12)
+    pub stride-differs : (j : ℕ) → j < r .moves → getD sheet (82 + 3 * j) 0 ≡ 5 → (bytesBehind j (properSheet sheet) ≡ bytesBehind j sheet → ⊥) × (r .differing ≡ 0 → ⊥)
+    stride-differs j b five =
+        let apart = other-kind (properSheet sheet) sheet j (proper-kind sheet (accepts e .0) j (rw (← moves-named) b)) five in
+        (apart, λ z. apart (none-right z j b))
+
     -- the proper sheet of c moves, and the bytes past it as they were
     pub rebuilt : after ≡ sheetOf (sheetStock sheet) (sheetStrip sheet) (r .moves) ++ drop (83 + 3 * r .moves) out
     unfolding rebuildOut properSheet
@@ -170,14 +177,14 @@ module _ (κs : Lfts 2) (a : Dens κs rebuild.ps) (r : Rebuilt) (t : AtExit (end
     pub accepted-unchanged : q .refusal .no ≡ 0 → a .0 .now ≡ b .0 .now → length (a .0 .now) ≤ length (a .1 .0 .now)
         → (r ≡ asRebuilt fine (q .moves, [])) × (t .1 .0 .now ≡ a .0 .now ++ drop (length (a .0 .now)) (a .1 .0 .now))
     accepted-unchanged e same room =
-        let w = rw (← same) at (read-is-written κr b q u k e .1) in
+        let w = rw (← same) at (read-is-written false _ _ q _ k refl e .1) in
         let n = unchanged _ _ (q .moves) (a .0 .now) w (a .1 .0 .now) room in
         (h .0 ∙ n .0, h .1 ∙ n .1)
 
     -- what is rebuilt, the reader accepts: c moves, and the strip that many numbers further on
     pub rebuilt-is-read : r .refusal .no ≡ 0 → b .0 .now ≡ take (83 + 3 * r .moves) (t .1 .0 .now) → 64 ≤ length (b .1 .0 .now)
         → (q ≡ asReadout fine (r .moves)) × (u .1 .0 .now ≡ onward (sheetStock (a .0 .now)) (sheetStrip (a .0 .now)) (r .moves) ++ drop (sum (sheetStock (a .0 .now))) (b .1 .0 .now))
-    rebuilt-is-read e same room = written-is-read κr b q u k _ _ (r .moves) room (rw same (rebuilt-writes κs a r t h e))
+    rebuilt-is-read e same room = written-is-read false _ _ q _ k _ _ (r .moves) room (rw same (rebuilt-writes κs a r t h e))
 
   -- ---- rebuilding what was rebuilt changes nothing
 

@@ -1,10 +1,12 @@
--- Proofs. How long the records of a sheet are: 83 bytes and 3 a move.
-use Prim.Native.Nat.{ℕ, zero, suc, _+_, _*_, _≤_}
+-- Proofs. How long the records of a sheet are, 83 bytes and 3 a move; and so, at which byte the record of each move begins.
+use Prim.Native.Nat.{ℕ, zero, suc, _+_, _*_, _≤_, _<_}
 use mathlib.Core.Path.{_≡_, refl, _∙_}
 use mathlib.Core.Bool.{false}
-use mathlib.Core.List.{List, _∷_, _++_}
+use mathlib.Core.List.{List, _∷_, _++_, append-assoc}
+use native.Mathlib.Decide.{ℕ-discrete}
 use native.Mathlib.Omega.{arith}
-use lib.ListN.{length, length-append}
+use lib.ListN.{length, getD, length-append}
+use lib.Seq.{getD-at, getD-append-add}
 use Rattle.rules.specs.Stock.{IsStock, IsStrip}
 use Rattle.rules.specs.Neighbours.{places}
 use Rattle.rules.proofs.Strips.{strip-fits}
@@ -34,3 +36,23 @@ module _ (counts s : List ℕ) (k : IsStock counts) (h : IsStrip counts s) where
         padded-long 16 counts (k .few),
         padded-long 64 s (strip-fits counts s k h),
       )
+
+  -- ---- the kind of the record of each move
+
+  kind-at : (c : ℕ) → c ≤ left counts s → (j : ℕ) → j < c → (rest : List ℕ) → getD (moveRecords counts s c ++ rest) (3 * j) 0 ≡ 3
+  unfolding moveRecords
+  kind-at zero l j b rest = absurd (omega arith)
+  kind-at (suc c) l j b rest =
+      let m = moveRecords counts s c in
+      let next : List ℕ = 3 ∷ places (onward counts s c) (onward counts s (suc c)) in
+      rw (append-assoc m next rest) (elim (ℕ-discrete j c) [
+        | yes e ↦ rw e (getD-at m 3 (places (onward counts s c) (onward counts s (suc c)) ++ rest) 0 (3 * c) (moves-long c (omega arith)))
+        | no e ↦ kind-at c (omega arith) j (omega arith) (next ++ rest)
+      ])
+
+  pub move-kind : (c : ℕ) → c ≤ left counts s → (j : ℕ) → j < c → getD (sheetOf counts s c) (82 + 3 * j) 0 ≡ 3
+  unfolding sheetOf stockRecord stripRecord
+  move-kind c l j b =
+      let rest = moveRecords counts s c ++ endRecord in
+      let e : 82 + 3 * j ≡ length (stockRecord counts) + (length (stripRecord s) + 3 * j) = omega (arith, padded-long 16 counts (k .few), padded-long 64 s (strip-fits counts s k h)) in
+      rw e (getD-append-add (stockRecord counts) (stripRecord s ++ rest) (length (stripRecord s) + 3 * j) 0 ∙ getD-append-add (stripRecord s) rest (3 * j) 0 ∙ kind-at c l j b endRecord)

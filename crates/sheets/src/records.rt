@@ -19,7 +19,7 @@ fn put_bytes(rest: &mut [u8], bytes: &[u8])
 }
 
 // A record: one byte of kind, then the body.
-fn put_record(rest: &mut [u8], kind: u8, body: &[u8])
+pub fn put_record(rest: &mut [u8], kind: u8, body: &[u8])
     requires { ⌜ length (now body) < length (now rest) ⌝ }
     ensures { λ _. ⌜ now (rest .exit) ≡ (kind ∷ now (body .entry)) ++ drop (suc (length (now (body .entry)))) (now (rest .entry)) ⌝ }
 {

@@ -3,6 +3,7 @@ use crate::cuts::compare_cuts;
 use crate::filed::compare_dictionary;
 use crate::hung::compare_hung;
 use crate::moves::move_agrees;
+use crate::orders::compare_orders;
 use crate::pairs::compare_pair;
 use crate::replays::compare_few;
 use crate::rows::directions_at;
@@ -73,6 +74,7 @@ fn compare_small(tally: &mut Tally, stock: &[u16], book: &[u8], i: usize, n: usi
     if n <= 4 {
         compare_all_pairs(tally, stock, book, i, n);
         compare_sheets(tally, stock, book, i, n);
+        compare_orders(tally, stock, book, i, n);
     }
 }
 

@@ -4,29 +4,37 @@
 // words are written. The dictionary of a stock is its book, sorted by comparing strips block by block. The turns of a strip, as it stands and read backwards,
 // are written down one after the other, and the next paper is looked for in the sorted book. The strips that stood on the bar are written down one after the
 // other, and looked for in the book. For stocks of up to 4 blocks every strip is compared with every other, press sheets are made from the strips of the book,
-// cut and spoiled, and compared with what is rebuilt of them, and every list of up to four bytes from 0 to 5 is replayed, right or wrong.
+// cut and spoiled, and compared with what is rebuilt of them, sheets of both editions are made of moves and strides, right or wrong, and compared with what
+// is read, written and rewritten, and every list of up to four bytes from 0 to 5 is replayed, right or wrong. Of one book that no number of 64 bits counts,
+// the first strips and the last are written down, and its sheets compared.
 mod books;
 mod compare;
 mod cuts;
 mod dictionary;
+mod editions;
+mod endings;
 mod filed;
+mod formed;
 mod hung;
 mod moves;
+mod orders;
 mod pairs;
 mod parting;
 mod patterns;
+mod pressed;
 mod replays;
 mod rows;
 mod runs;
 mod search;
-mod sheets;
 mod shelf;
 mod single;
 mod spoiled;
 mod stocks;
 mod stood;
+mod strode;
 mod tally;
 mod turns;
+mod vast;
 mod ways;
 
 use books::build;
@@ -41,6 +49,7 @@ use shelf::rows_of;
 use stocks::cut;
 use stocks::first_counts;
 use tally::Tally;
+use vast::compare_vast;
 ghost use Prim.Native.Nat.{_≤_};
 
 // A book with a strip of n blocks to work on.
@@ -122,8 +131,9 @@ fn compare_all(lists: &Lists, tally: &mut Tally) {
 
 fn main() {
     let mut lists: Lists = [0; 4608];
-    let mut tally: Tally = [0; 64];
+    let mut tally: Tally = [0; 128];
     patterns::fill(&mut lists);
     compare_all(&lists, &mut tally);
+    compare_vast(&mut tally);
     tally::print(&tally);
 }

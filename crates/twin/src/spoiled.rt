@@ -1,16 +1,16 @@
 // Rebuilding compared with a book, on the sheets of up to three moves from each of its strips: cut at each length, or going on behind their end; with each
 // byte spoiled in turn; and with every byte spoiled from one on.
+use crate::pressed::MOST;
+use crate::pressed::ROOM;
+use crate::pressed::Sheet;
+use crate::pressed::Start;
+use crate::pressed::byte;
+use crate::pressed::put;
+use crate::pressed::put_sheet;
 use crate::rows::front;
 use crate::rows::last;
 use crate::rows::least;
 use crate::rows::same;
-use crate::sheets::MOST;
-use crate::sheets::ROOM;
-use crate::sheets::Sheet;
-use crate::sheets::Start;
-use crate::sheets::byte;
-use crate::sheets::put;
-use crate::sheets::put_sheet;
 use crate::tally;
 use crate::tally::Tally;
 use crate::tally::note;

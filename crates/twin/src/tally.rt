@@ -2,9 +2,9 @@
 use io::print_decimal;
 use io::write_all;
 
-pub type Tally = [u64; 64];
+pub type Tally = [u64; 128];
 
-// A number for each call that is compared; how often it disagreed stands 32 further on.
+// A number for each call that is compared; how often it disagreed stands 64 further on.
 pub const COUNT: usize = 0;
 
 pub const FIRST: usize = 1;
@@ -67,8 +67,34 @@ pub const REPLAY_WRONG: usize = 29;
 
 pub const CUTS: usize = 30;
 
+pub const WRITE_LONG: usize = 31;
+
+pub const WRITE_LONG_REFUSED: usize = 32;
+
+pub const READ_RIGHT: usize = 33;
+
+pub const READ_UNKNOWN: usize = 34;
+
+pub const READ_PAST: usize = 35;
+
+pub const READ_LOW: usize = 36;
+
+pub const READ_VAST: usize = 37;
+
+pub const READ_SHEET: usize = 38;
+
+pub const READ_SHEET_STRIDE: usize = 39;
+
+pub const REWRITE: usize = 40;
+
+pub const REWRITE_ROOM: usize = 41;
+
+pub const REWRITE_REFUSED: usize = 42;
+
+pub const REWRITE_AGAIN: usize = 43;
+
 fn add_one(tally: &mut Tally, i: usize) {
-    if i < 64 {
+    if i < 128 {
         let seen = tally[i];
         if seen < 1000000000 {
             tally[i] = seen + 1;
@@ -82,8 +108,8 @@ pub fn note(tally: &mut Tally, call: usize, agrees: bool) {
     if agrees {
         return;
     }
-    if call < 32 {
-        add_one(tally, call + 32);
+    if call < 64 {
+        add_one(tally, call + 64);
     }
 }
 
@@ -93,9 +119,9 @@ fn said(words: &[u8], number: u64) {
 }
 
 fn line(words: &[u8], tally: &Tally, call: usize) {
-    if call < 32 {
+    if call < 64 {
         said(words, tally[call]);
-        said(b" compared, ", tally[call + 32]);
+        said(b" compared, ", tally[call + 64]);
         write_all(1, b" disagreed\n");
     }
 }
@@ -160,6 +186,25 @@ fn print_replays(tally: &Tally) {
     line(b"Replay, refused for a pair: ", tally, REPLAY_WRONG);
 }
 
+fn print_readers(tally: &Tally) {
+    line(b"Read editions: ", tally, READ_RIGHT);
+    line(b"Read editions, refused by 7: ", tally, READ_VAST);
+    line(b"Read editions, refused by 11: ", tally, READ_UNKNOWN);
+    line(b"Read editions, refused by 12: ", tally, READ_PAST);
+    line(b"Read editions, refused by 17: ", tally, READ_LOW);
+    line(b"Read sheet, without strides: ", tally, READ_SHEET);
+    line(b"Read sheet, with strides: ", tally, READ_SHEET_STRIDE);
+}
+
+fn print_forms(tally: &Tally) {
+    line(b"Write long: ", tally, WRITE_LONG);
+    line(b"Write long, refused: ", tally, WRITE_LONG_REFUSED);
+    line(b"Rewrite: ", tally, REWRITE);
+    line(b"Rewrite, refused by 13: ", tally, REWRITE_ROOM);
+    line(b"Rewrite, refused as reading: ", tally, REWRITE_REFUSED);
+    line(b"Rewrite again: ", tally, REWRITE_AGAIN);
+}
+
 // Count is compared once a stock, and Number once a strip.
 pub fn print(tally: &Tally) {
     said(b"Stocks: ", tally[COUNT]);
@@ -172,4 +217,6 @@ pub fn print(tally: &Tally) {
     print_papers(tally);
     print_sheets(tally);
     print_replays(tally);
+    print_readers(tally);
+    print_forms(tally);
 }

@@ -1,4 +1,5 @@
 // Replay compared with a book on the moves of the book: the whole way on and back, parts of it, and its first moves made on other strips.
+use crate::pressed::place;
 use crate::replays::compare_list;
 use crate::replays::compare_replay;
 use crate::rows::beside;
@@ -7,7 +8,6 @@ use crate::rows::last;
 use crate::rows::least;
 use crate::rows::strip_at;
 use crate::runs::number_after;
-use crate::sheets::place;
 use crate::stood::MOST;
 use crate::stood::Outcome;
 use crate::tally;

@@ -16,11 +16,11 @@ use Rattle.reading.proofs.moves.moves_at.Tie as tie
 returns : tie.Need-returns
 returns c =
     let a = c .before .before .before .before .args in
-    let e = too-small (a .at) (a .sheet .now) (a .opening) (a .buffer .now) (omega arith) in
+    let e = too-small (a .strides) (a .at) (a .sheet .now) (a .opening) (a .buffer .now) (omega arith) in
     (c .refused .ensures ∙ e .0, e .1)
 
 returns-2 : tie.Need-returns-2
-returns-2 c = refused-before _ _ _ _ (omega arith) (omega arith)
+returns-2 c = refused-before _ _ _ _ _ (omega arith) (omega arith)
 
 -- the moves are followed
 module _ (c : tie.After-follow-from) where
@@ -30,7 +30,7 @@ module _ (c : tie.After-follow-from) where
   abbrev strip : List ℕ
   strip = c .follow-from .last .1 .1 .1 .0
 
-  ends : Ends (followedAt (a .args .at) (a .args .sheet .now) (a .args .opening)) (c .follow-from .result) strip
+  ends : Ends (followedAt (a .args .strides) (a .args .at) (a .args .sheet .now) (a .args .opening)) (c .follow-from .result) strip
   unfolding followedAt
   ends = c .follow-from .ensures
 
@@ -44,12 +44,12 @@ module _ (c : tie.After-follow-from) where
   is = part-is (a .args .opening .strip) strip _ (a .pre .blocks) kept
 
 returns-3 : tie.Need-returns-3
-returns-3 c = refused-after _ _ _ _ (omega arith) (omega arith) _ _ (ends (c .before .before .before)) (omega arith)
+returns-3 c = refused-after _ _ _ _ _ (omega arith) (omega arith) _ _ (ends (c .before .before .before)) (omega arith)
 
 returns-4 : tie.Need-returns-4
 returns-4 c =
     let f = c .before .before .before .before .before .before .before .before in
-    read-on _ _ _ _ (omega arith) (omega arith) _ _ (ends f) (omega arith) (kept f) _ (c .before .before .lay-in .ensures ∙ ap (λ (l : List ℕ). l ++ drop (length l) (a f .args .buffer .now)) (is f))
+    read-on _ _ _ _ _ (omega arith) (omega arith) _ _ (ends f) (omega arith) (kept f) _ (c .before .before .lay-in .ensures ∙ ap (λ (l : List ℕ). l ++ drop (length l) (a f .args .buffer .now)) (is f))
 
 lay-in-requires : tie.Need-lay-in-requires
 lay-in-requires c κs =

@@ -1,0 +1,2 @@
+-- TO BE BELIEVED: what rewriting a sheet answers.
+pub mod Rewriting

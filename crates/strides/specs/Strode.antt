@@ -1,0 +1,12 @@
+-- What making a stride promises. No open call's contract cites it, so nothing here is to be believed.
+use Prim.Native.Nat.{ℕ}
+use mathlib.Core.Path.{_≡_}
+use mathlib.Core.List.{List}
+use Rattle.rules.specs.Refusals.{firstOf}
+use Rattle.walking.specs.Answers.{onward}
+use Rattle.strides.specs.Strides.{strideNos}
+
+-- a stride of n moves from the strip s: the number of its refusal, and where there is none, the strip that is left
+pub record Strode (counts s : List ℕ) (n no : ℕ) (t : List ℕ) : Type 0 where
+  pub number : no ≡ firstOf (strideNos counts s n) .0
+  pub strip : no ≡ 0 → t ≡ onward counts s n
