@@ -1,14 +1,10 @@
 -- Proofs. Writing the one form of a checked stock and strip: single moves as edition 1 writes them, or one stride.
-use Prim.Native.Nat.{ℕ, _-_, _≤_, _<_}
-use mathlib.Core.Path.{_≡_, refl, sym, ap, _∙_}
+use Prim.Native.Nat.{ℕ, _≤_, _<_}
+use mathlib.Core.Path.{_≡_, sym, ap, _∙_}
 use mathlib.Core.List.{List, _++_}
-use native.Mathlib.Omega.{arith}
 use lib.ListN.{length, drop}
-use Rattle.rules.specs.Stock.{total, IsStrip}
-use Rattle.rules.specs.Book.{book, placeIn}
 use Rattle.rules.specs.Refusals.{fine, firstOf, checkNos}
-use Rattle.rules.proofs.Places.{place-below}
-use Rattle.walking.specs.Answers.{leftAlong, left}
+use Rattle.walking.specs.Answers.{left}
 use Rattle.sheets.specs.declared.Written.{Written}
 use Rattle.sheets.specs.Sheets.{stockRecord, stripRecord, endRecord, sheetOf}
 use Rattle.sheets.specs.Writing.{asWritten, writeAnswer, writeSheet}
@@ -31,16 +27,12 @@ module _ (counts s : List ℕ) (c : ℕ) (sheet : List ℕ) where
     pub no-room : length sheet < 92 → Leaves (asWritten (13, 0) 0) sheet
     no-room h = called.no-room (formLength counts c) (formOf counts s c) counts s c sheet none (rw (v .length) h)
 
-    module _ (room : 92 ≤ length sheet) (h : IsStrip counts s) (here strips : ℕ) (is : here ≡ placeIn (book counts) s) (all : strips ≡ total counts) where
-      left-is : left counts s ≡ strips - 1 - here
-      unfolding leftAlong
-      left-is = rw (is, all) refl
+    module _ (room : 92 ≤ length sheet) where
+      pub fewer : left counts s < c → Leaves (asWritten (9, 0) 0) sheet
+      fewer l = called.fewer (formLength counts c) (formOf counts s c) counts s c sheet none (rw (v .length) room) l
 
-      pub fewer : strips - here ≤ c → Leaves (asWritten (9, 0) 0) sheet
-      fewer l = called.fewer (formLength counts c) (formOf counts s c) counts s c sheet none (rw (v .length) room) (omega (arith, left-is, is, all, place-below counts s h))
-
-      pub written : c < strips - here → (z : List ℕ) → z ≡ (stockRecord counts ++ (stripRecord s ++ (strideRecord c ++ endRecord))) ++ drop 92 sheet → Leaves (asWritten fine 92) z
+      pub written : c ≤ left counts s → (z : List ℕ) → z ≡ (stockRecord counts ++ (stripRecord s ++ (strideRecord c ++ endRecord))) ++ drop 92 sheet → Leaves (asWritten fine 92) z
       unfolding formOf
       written l z e =
-          let w = called.written (formLength counts c) (formOf counts s c) counts s c sheet none (rw (v .length) room) (omega (arith, left-is)) z (e ∙ rw (v .length, v .records)) in
+          let w = called.written (formLength counts c) (formOf counts s c) counts s c sheet none (rw (v .length) room) l z (e ∙ rw (v .length, v .records)) in
           (ap (asWritten fine) (sym (v .length)) ∙ w .0, w .1)

@@ -1,11 +1,9 @@
 // Writing a sheet of edition 2 in its one form.
 use crate::whole::put_strided;
-use counting::patterns_of;
-use counting::total_of;
-use numbering::number_of;
 use sheets::Written;
 use stock::Refusal;
 use stock::check_strip;
+use strides::ahead::look_ahead;
 use writing::sheet::refused;
 use writing::sheet::write_moves;
 ghost use mathlib.Core.Path.{_≡_};
@@ -21,17 +19,14 @@ pub fn write_form(stock: &[u16], strip: &[u8], moves: u64, sheet: &mut [u8]) -> 
     if moves < 3 {
         return write_moves(stock, strip, moves, sheet);
     }
-    let patterns = patterns_of(stock);
-    let strips = total_of(&patterns, stock);
-    if strips == 0 {
+    let ahead = look_ahead(stock, strip, moves);
+    if ahead.no == 7 {
         return write_moves(stock, strip, moves, sheet);
     }
     if sheet.len() < 92 {
         return refused(13);
     }
-    let placed = number_of(&patterns, stock, strip);
-    let here = placed.number;
-    if strips - here <= moves {
+    if ahead.no != 0 {
         return refused(9);
     }
     put_strided(sheet, stock, strip, moves);

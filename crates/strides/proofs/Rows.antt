@@ -1,8 +1,9 @@
 -- Proofs. A stride of n moves: which row refuses it, and where none does, the strip n numbers further on.
-use Prim.Native.Nat.{ℕ, _+_, _-_, _^_, _≤_, _<_}
+use Prim.Native.Nat.{ℕ, suc, _+_, _-_, _^_, _≤_, _<_}
 use mathlib.Core.Path.{_≡_, refl, sym, ap, _∙_}
 use mathlib.Core.Bool.{false}
 use mathlib.Core.List.{List, []}
+use native.Mathlib.Decide.{decLt}
 use native.Mathlib.Omega.{arith}
 use borrow.Author.Tests.{lt-ltb, le-ltb, ltb-false, leb-false}
 use lib.Dec.{ltb, leb}
@@ -16,7 +17,8 @@ use Rattle.rules.proofs.Places.{place-below}
 use Rattle.walking.specs.Answers.{along, leftAlong, left}
 use Rattle.walking.proofs.Along.{along-strip}
 use Rattle.strides.specs.Strides.{strideNos}
-use Rattle.strides.specs.Strode.{Strode}
+use Rattle.strides.specs.declared.ahead.Ahead.{Ahead}
+use Rattle.strides.specs.Strode.{Sees, Strode}
 
 module _ (counts s : List ℕ) (n : ℕ) where
   rows-short : n < 2 → firstOf (strideNos counts s n) ≡ (17, 0)
@@ -54,26 +56,63 @@ module _ (counts s : List ℕ) (n : ℕ) where
   no-of : (m : ℕ) → firstOf (strideNos counts s n) ≡ (m, 0) → m ≡ firstOf (strideNos counts s n) .0
   no-of m e = sym (ap (λ (r : No). r .0) e)
 
-  -- ---- case by case as the function finds it
+  -- ---- case by case as it is found
 
-  pub strode-short : n < 2 → Strode counts s n 17 s
-  strode-short h = record { number = no-of 17 (rows-short h); strip = λ z. absurd (omega arith) }
+  barred : (m : ℕ) (a : Ahead) → a ≡ record { no = suc m; number = 0 } → firstOf (strideNos counts s n) ≡ (suc m, 0) → Sees counts s n a
+  barred m a is e = rw is record { refusal = no-of (suc m) e; place = λ z. absurd (omega arith) }
+
+  pub sees-short : (a : Ahead) → a ≡ record { no = 17; number = 0 } → n < 2 → Sees counts s n a
+  sees-short a is h = barred 16 a is (rows-short h)
 
   module _ (two : 2 ≤ n) where
-    pub strode-many : 2 ^ 64 ≤ total counts → Strode counts s n 7 s
-    strode-many h = record { number = no-of 7 (rows-many two h); strip = λ z. absurd (omega arith) }
+    pub sees-many : (a : Ahead) → a ≡ record { no = 7; number = 0 } → 2 ^ 64 ≤ total counts → Sees counts s n a
+    sees-many a is h = barred 6 a is (rows-many two h)
 
     module _ (h : IsStrip counts s) (few : total counts < 2 ^ 64) (here : ℕ) (is : here ≡ placeIn (book counts) s) where
       left-is : left counts s ≡ total counts - 1 - here
       unfolding leftAlong
       left-is = rw (sym is) refl
 
-      pub strode-past : total counts - here ≤ n → Strode counts s n 12 s
-      strode-past l = record { number = no-of 12 (rows-past two few (omega (arith, left-is, is, place-below counts s h))); strip = λ z. absurd (omega arith) }
+      pub sees-past : (a : Ahead) → a ≡ record { no = 12; number = 0 } → total counts - here ≤ n → Sees counts s n a
+      sees-past a e l = barred 11 a e (rows-past two few (omega (arith, left-is, is, place-below counts s h)))
 
-      pub strode : n < total counts - here → (m : ℕ) → m ≡ here + n → (t : List ℕ) → t ≡ getD (book counts) m [] → Strode counts s n 0 t
+      pub sees-on : n < total counts - here → Sees counts s n (record { no = 0; number = here + n })
+      sees-on l = record { refusal = no-of 0 (rows-fine two few (omega (arith, left-is))); place = λ z. rw is }
+
+    -- ---- and back: what the number of the refusal says
+
+    pub seven-many : firstOf (strideNos counts s n) .0 ≡ 7 → 2 ^ 64 ≤ total counts
+    seven-many e = elim (decLt (total counts) (2 ^ 64)) [
+      | yes few ↦ elim (decLt (left counts s) n) [
+        | yes l ↦ absurd (omega (arith, e, ap (λ (r : No). r .0) (rows-past two few l)))
+        | no l ↦ absurd (omega (arith, e, ap (λ (r : No). r .0) (rows-fine two few (omega arith))))
+      ]
+      | no many ↦ omega arith
+    ]
+
+    pub else-few : (firstOf (strideNos counts s n) .0 ≡ 7 → ⊥) → total counts < 2 ^ 64
+    else-few h = elim (decLt (total counts) (2 ^ 64)) [ yes few ↦ few | no many ↦ absurd (h (ap (λ (r : No). r .0) (rows-many two (omega arith)))) ]
+
+    pub refused-past : total counts < 2 ^ 64 → (firstOf (strideNos counts s n) .0 ≡ 0 → ⊥) → left counts s < n
+    refused-past few h = elim (decLt (left counts s) n) [ yes l ↦ l | no l ↦ absurd (h (ap (λ (r : No). r .0) (rows-fine two few (omega arith)))) ]
+
+  -- ---- making it, as it is seen ahead
+
+  module _ (a : Ahead) (v : Sees counts s n a) where
+    pub strode-not : (t : List ℕ) → (a .no ≡ 0 → ⊥) → Strode counts s n (a .no) t
+    strode-not t h = record { number = v .refusal; strip = λ z. absurd (h z) }
+
+    module _ (z : a .no ≡ 0) where
+      pub seen-few : total counts < 2 ^ 64
+      seen-few = rows-passed (sym (v .refusal) ∙ z) .few
+
+      pub seen-below : IsStrip counts s → a .number < total counts
+      unfolding leftAlong
+      seen-below h = omega (arith, v .place z, rows-passed (sym (v .refusal) ∙ z) .within, place-below counts s h)
+
+      pub strode : (t : List ℕ) → t ≡ getD (book counts) (a .number) [] → Strode counts s n 0 t
       unfolding along
-      strode l m at t e = record { number = no-of 0 (rows-fine two few (omega (arith, left-is))); strip = λ z. e ∙ rw (at, is) }
+      strode t e = record { number = sym z ∙ v .refusal; strip = λ y. e ∙ rw (v .place z) }
 
 -- the strip that is left is one of the stock
 pub own-after : (counts s : List ℕ) (n m : ℕ) (t : List ℕ) → IsStrip counts s → Strode counts s n m t → m ≡ 0 → IsStrip counts t
