@@ -2,6 +2,7 @@
 use Prim.Native.Nat.{ℕ, zero, suc, _+_, _*_, _/_, _%_, _^_, _<_}
 use mathlib.Core.Path.{_≡_, refl, _∙_}
 use mathlib.Core.List.{List, [], _∷_, _++_}
+use native.Mathlib.Nat.{pow-le-pow-right}
 use native.Mathlib.Numerals.{add-one, unary-clauses}
 use native.Mathlib.Omega.{arith}
 use lib.ListN.{length, getD, take, drop, length-append, length-drop}
@@ -32,19 +33,11 @@ unfolding bytesOf
 bytes-long zero n = refl
 bytes-long (suc k) n = length-append (bytesOf k (n / 256)) (n % 256 ∷ []) ∙ rw (bytes-long k (n / 256)) (omega arith)
 
--- up to seven bytes and one more fit 64 bits
-pub one-more-fits : (i n : ℕ) → i < 8 → n < 256 ^ i → n * 256 + 255 < 2 ^ 64
-one-more-fits zero n l h = omega arith
-one-more-fits (suc zero) n l h = omega arith
-one-more-fits (suc (suc zero)) n l h = omega arith
-one-more-fits (suc (suc (suc zero))) n l h = omega arith
-one-more-fits (suc (suc (suc (suc zero)))) n l h = omega arith
-one-more-fits (suc (suc (suc (suc (suc zero))))) n l h = omega arith
-one-more-fits (suc (suc (suc (suc (suc (suc zero)))))) n l h = omega arith
-one-more-fits (suc (suc (suc (suc (suc (suc (suc zero))))))) n l h = omega arith
-one-more-fits (suc (suc (suc (suc (suc (suc (suc (suc i)))))))) n l h = absurd (omega arith)
-
 pub below-next : (i n x : ℕ) → n < 256 ^ i → x < 256 → n * 256 + x < 256 ^ (i + 1)
 below-next i n x h k =
     let e : 256 ^ (i + 1) ≡ 256 * 256 ^ i = rw (add-one i) (simp unary-clauses (omega arith)) in
     omega (arith, e)
+
+-- up to seven bytes and one more fit 64 bits
+pub one-more-fits : (i n : ℕ) → i < 8 → n < 256 ^ i → n * 256 + 255 < 2 ^ 64
+one-more-fits i n l h = omega (arith, below-next i n 255 h (omega arith), pow-le-pow-right {n = 256} (omega arith) {i = i + 1} {j = 8} (omega arith))
