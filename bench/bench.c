@@ -7,6 +7,7 @@
 #include "pairs.h"
 #include "papers.h"
 #include "replays.h"
+#include "searches.h"
 #include "sheets.h"
 #include "strides.h"
 
@@ -19,11 +20,19 @@ int main(int count, char **arguments)
         {.title = "32 32", .kinds = 2, .stock = {32, 32}, .moves = 20000000},
         {.title = "sixteen 4s", .kinds = 16, .stock = {4, 4, 4, 4, 4, 4, 4, 4, 4, 4, 4, 4, 4, 4, 4, 4}, .moves = 20000000},
     };
+    static work more[MORE] = {
+        {.title = "2 2 2 2 2 2", .kinds = 6, .stock = {2, 2, 2, 2, 2, 2}},
+        {.title = "31 31 1", .kinds = 3, .stock = {31, 31, 1}},
+        {.title = "16 16 16 16", .kinds = 4, .stock = {16, 16, 16, 16}},
+    };
     uint64_t most = count > 1 ? strtoull(arguments[1], NULL, 10) * 1000000 : UINT64_MAX;
     must(most > 0, "MILLIONS is a number from 1 on");
     fill_binomials();
     for (size_t i = 0; i < STOCKS; i++) {
         prepare(&works[i]);
+    }
+    for (size_t i = 0; i < MORE; i++) {
+        prepare(&more[i]);
     }
     print_moves(works, most);
     print_all_calls(works);
@@ -32,5 +41,6 @@ int main(int count, char **arguments)
     print_sheets(works);
     print_replays();
     print_strides(works);
+    print_searches(works, more);
     return 0;
 }

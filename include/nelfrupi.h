@@ -257,6 +257,25 @@ typedef struct {
 nelfrupi_ran nelfrupi_run(const uint16_t *stock, size_t kinds, uint8_t *strip, size_t length, nelfrupi_walker walker,
                           bool back, uint8_t *list, size_t list_length);
 
+typedef struct {
+    nelfrupi_refusal refusal;
+    uint8_t outcome;
+    uint64_t moves;
+    nelfrupi_walker walker;
+} nelfrupi_spaced;
+
+/* Next apart: looks for the next later strip of the book in which no two blocks of a kind are neighbours, within the given
+ * moves. Where endless is true the last place also neighbours the first, and a strip of one block neighbours itself.
+ * `outcome` says how the search ended, with the numbers of Next paper; refused, 0.
+ *   found       the strip becomes that strip, `moves` leads to it, and the walker is its walker.
+ *   none left   no later strip is such, and the given moves reach the last strip; `moves` leads to the last.
+ *   stopped     otherwise: all the given moves are made.
+ * None left and stopped are no refusals: the strip is then as it was, and the walker the one lent. The lent strip itself is
+ * not looked at.
+ * Refused: 1, 2, 3, 4, 5, 6, 10. */
+nelfrupi_spaced nelfrupi_next_apart(const uint16_t *stock, size_t kinds, uint8_t *strip, size_t length,
+                                    nelfrupi_walker walker, bool endless, uint64_t moves);
+
 /* ---- what the press really printed: blocks exchanged by hand, for stocks with T up to 4,096 */
 
 typedef struct {

@@ -37,7 +37,8 @@ pub use Rattle.endless.proofs.Theorems.{stand-right}
 -- found, none left and stopped: what each means, exactly when it is given, and that one always is: any outcome of next paper
 pub use Rattle.endless.proofs.Theorems.{next-paper-right}
 -- a later strip of the dictionary, by its place
-pub use Rattle.endless.proofs.Later.{later-length, later-at}
+pub use Rattle.searching.proofs.Later.{later-at}
+pub use Rattle.endless.proofs.Later.{later-length}
 -- the first strip in dictionary order is the one that First gives, and is standing
 pub use Rattle.dictionary.proofs.FirstEntry.{first-entry}
 pub use Rattle.endless.proofs.Listing.{first-standing}

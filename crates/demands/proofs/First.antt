@@ -89,6 +89,11 @@ use Rattle.endless.proofs.stand.stand.Kinds as stand
 use Rattle.endless.proofs.stand.stand.Reads as stand-reads
 use Rattle.endless.proofs.next_paper.next_paper.Kinds as next-paper
 use Rattle.endless.proofs.next_paper.next_paper.Reads as next-paper-reads
+use Rattle.spacing.specs.declared.next_apart.Spaced.{Spaced}
+use Rattle.spacing.specs.Answers.{nextApartAnswer}
+use Rattle.spacing.proofs.Theorems.{next-apart-right}
+use Rattle.spacing.proofs.next_apart.next_apart.Kinds as next-apart
+use Rattle.spacing.proofs.next_apart.next_apart.Reads as next-apart-reads
 use Rattle.sheets.specs.declared.Written.{Written}
 use Rattle.sheets.specs.Writing.{putAnswer, writeNos}
 use Rattle.writing.proofs.Theorems.{refused-stays as write-refused-stays}
@@ -252,6 +257,13 @@ pub next-paper-refuses : (κs : Lfts 2) (a : Dens κs next-paper.ps) (r : Steppe
     → Refuses (checkNos (a .0 .now) (a .1 .0 .now)) (r .refusal) ((r .outcome ≡ 0) × (r .steps ≡ 0) × (s .1 .0 .now ≡ a .1 .0 .now))
 unfolding nextPaperAnswer
 next-paper-refuses κs a r s h = record { named = ap (λ (r : Stepped). r .refusal) (h .0); left = next-paper-right κs a r s h .kept }
+
+-- ---- Next apart: 1 to 6, 10. The strip stays, and the walker is the one lent
+
+pub next-apart-refuses : (κs : Lfts 2) (a : Dens κs next-apart.ps) (r : Spaced) (s : AtExit (endedOf 2 next-apart.ps next-apart.r) κs) → next-apart-reads.Post κs a r s
+    → Refuses (walkerNos (a .0 .now) (a .1 .0 .now) (a .1 .1 .0)) (r .refusal) ((r .outcome ≡ 0) × (r .moves ≡ 0) × (r .walker ≡ a .1 .1 .0) × (s .1 .0 .now ≡ a .1 .0 .now))
+unfolding nextApartAnswer
+next-apart-refuses κs a r s h = record { named = ap (λ (r : Spaced). r .refusal) (h .0); left = next-apart-right κs a r s h .kept }
 
 -- ---- writing a sheet: 1 to 6, 13, 9. The sheet stays
 

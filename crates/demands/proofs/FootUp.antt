@@ -7,13 +7,13 @@ use contract.Lifetimes.{Lfts}
 use borrow.Fn.Kinds.{Dens, endedOf}
 use denote.Triple.Clauses.{AtExit}
 use Rattle.rules.specs.Stock.{IsStock, IsStrip}
+use Rattle.rules.proofs.Checks.{some-blocks}
 use Rattle.papers.specs.Papers.{hung, isTurn}
 use Rattle.papers.specs.declared.Asked.{Asked}
 use Rattle.papers.proofs.Theorems.{accepts, accepted, same-is}
 use Rattle.papers.proofs.same_paper.Kinds as same-paper
 use Rattle.papers.proofs.same_paper.Reads as same-paper-reads
 use Rattle.standing.proofs.OnePaper.{paper-self, paper-back, paper-on, hung-strip, either-end-up}
-use Rattle.endless.proofs.Later.{some-blocks}
 -- Same paper says yes exactly where the second strip is the first, as it stands or read backwards, turned by some number of places
 pub use Rattle.papers.proofs.Theorems.{yes-turned, turned-yes}
 -- the standing strip is the smallest over both sets of turns; reversed, preferring not, and then the smallest turn: reverse first, then turn

@@ -12,4 +12,5 @@ pub mod FootUp
 pub mod ReallyPrinted
 pub mod HowFar
 pub mod LongOrders
+pub mod NoneTouching
 pub mod Outcomes

@@ -15,6 +15,7 @@ pub use Rattle.replaying.proofs.Theorems.{one-outcome as replay-one-outcome}
 pub use Rattle.exports.proofs.Theorems.{drive-is, drive-one-outcome}
 pub use Rattle.papers.proofs.Theorems.{one-outcome as same-paper-one-outcome}
 pub use Rattle.endless.proofs.Theorems.{stand-one-outcome, next-paper-one-outcome}
+pub use Rattle.spacing.proofs.Theorems.{one-outcome as next-apart-one-outcome}
 pub use Rattle.writing.proofs.Theorems.{one-outcome as write-sheet-one-outcome}
 pub use Rattle.reading.proofs.Theorems.{old-one-outcome as read-sheet-one-outcome, new-one-outcome as read-editions-one-outcome}
 pub use Rattle.rebuilding.proofs.Theorems.{one-outcome as rebuild-one-outcome}
@@ -24,7 +25,7 @@ pub use Rattle.exports.proofs.Outcomes.{count-one-outcome-for-c, first-one-outc
 pub use Rattle.exports.proofs.Outcomes.{dictionary-number-one-outcome-for-c, dictionary-strip-one-outcome-for-c, dictionary-next-one-outcome-for-c}
 pub use Rattle.exports.proofs.Outcomes.{to-dictionary-one-outcome-for-c, to-book-one-outcome-for-c}
 pub use Rattle.exports.proofs.Outcomes.{which-one-outcome-for-c, distance-one-outcome-for-c, same-paper-one-outcome-for-c}
-pub use Rattle.exports.proofs.Outcomes.{stand-one-outcome-for-c, next-paper-one-outcome-for-c}
+pub use Rattle.exports.proofs.Outcomes.{stand-one-outcome-for-c, next-paper-one-outcome-for-c, next-apart-one-outcome-for-c}
 pub use Rattle.exports.proofs.Outcomes.{open-one-outcome-for-c, walk-one-outcome-for-c, run-one-outcome-for-c, replay-one-outcome-for-c}
 pub use Rattle.exports.proofs.Outcomes.{write-sheet-one-outcome-for-c, read-sheet-one-outcome-for-c, rebuild-one-outcome-for-c}
 pub use Rattle.exports.proofs.Outcomes.{write-long-one-outcome-for-c, read-editions-one-outcome-for-c, rewrite-one-outcome-for-c}

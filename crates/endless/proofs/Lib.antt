@@ -6,4 +6,3 @@ pub mod Chain
 pub mod Marked
 mod Hung
 mod Steps
-mod Copies

@@ -10,16 +10,18 @@ use lib.ListN.{length, getD, length-drop}
 use lib.Seq.{drop-cons}
 use Rattle.rules.specs.Stock.{total, IsStock, IsStrip}
 use Rattle.rules.specs.Book.{placeIn}
+use Rattle.rules.proofs.Checks.{some-blocks}
 use Rattle.rules.proofs.Prefixes.{total-some}
 use Rattle.papers.specs.Papers.{isTurn}
 use Rattle.dictionary.specs.Dictionary.{dictionary}
 use Rattle.dictionary.proofs.Theorems.{dictionary-size, dictionary-only, dictionary-place, dictionary-below}
 use Rattle.searching.specs.Searching.{later, passing}
+use Rattle.searching.proofs.Later.{later-later}
 use Rattle.searching.proofs.Theorems.{Found, NoneLeft}
 use Rattle.searching.proofs.Passing.{passing-none, passing-order, passing-all, passing-only, found-passing}
 use Rattle.standing.specs.Standing.{standing, isStanding}
 use Rattle.standing.proofs.Theorems.{standing-strip, paper-once, paper-there, first-stands}
-use Rattle.endless.proofs.Later.{some-blocks, later-length, later-own, later-later}
+use Rattle.endless.proofs.Later.{own-place, later-length, later-own}
 
 -- the standing strips of a stock, in dictionary order
 abbrev pub papersOf : List ℕ → List (List ℕ)
@@ -37,7 +39,7 @@ module _ (counts s : List ℕ) (own : IsStrip counts s) (given m : ℕ) (f : Fou
   pub next-of : (papersAfter counts s ≡ next ∷ papersAfter counts next) × IsStrip counts next × (length (later (dictionary counts) next) ≤ length (later (dictionary counts) s))
   next-of =
       let l = later (dictionary counts) s in
-      let e = later-later counts s own m (f .within) in
+      let e = later-later (dictionary counts) s (own-place counts) m (f .within) in
       (found-passing isStanding l given m f ∙ ap (λ (k : List (List ℕ)). next ∷ passing isStanding k) (sym e), later-own counts s own m (f .within), omega (arith, ap length e, length-drop (suc m) l))
 
 pub none-of : (counts s : List ℕ) (given : ℕ) → NoneLeft isStanding (later (dictionary counts) s) given → papersAfter counts s ≡ []

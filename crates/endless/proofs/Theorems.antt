@@ -14,7 +14,7 @@ use Rattle.rules.specs.Book.{turn}
 use Rattle.rules.specs.Refusals.{No, firstOf, unless, checkNos}
 use Rattle.rules.specs.Outcome.{OneOutcome}
 use Rattle.rules.proofs.Refusals.{unless-passed, unless-refused}
-use Rattle.rules.proofs.Checks.{accepted-both, accepted-both-back}
+use Rattle.rules.proofs.Checks.{some-blocks, accepted-both, accepted-both-back}
 use Rattle.papers.specs.Papers.{turned, hung, isTurn}
 use Rattle.papers.proofs.Turning.{turned-none}
 use Rattle.dictionary.specs.Dictionary.{before, dictionary}
@@ -27,7 +27,6 @@ use Rattle.standing.proofs.Theorems.{standing-least, reversed-only, turn-least,
 use Rattle.endless.specs.declared.stand.Stood.{Stood}
 use Rattle.endless.specs.declared.next_paper.Stepped.{Stepped}
 use Rattle.endless.specs.Answers.{standAnswer, standAfter, paperOutcome, paperSteps, nextPaper, nextPaperAnswer, nextPaperAfter}
-use Rattle.endless.proofs.Later.{some-blocks}
 use Rattle.endless.proofs.stand.stand.Kinds as stand
 use Rattle.endless.proofs.stand.stand.Reads as stand-reads
 use Rattle.endless.proofs.next_paper.next_paper.Kinds as next-paper

@@ -1,3 +1,2 @@
--- TO BE BELIEVED: what the calls on endless papers answer. `Seeking` is the exception: it is what the search behind a call promises.
+-- TO BE BELIEVED: what the calls on endless papers answer.
 pub mod Answers
-pub mod Seeking

@@ -1,11 +1,10 @@
 // Stepping through the papers of a stock.
 use crate::seek::seek;
 use bytes::copy;
+use copying::copied;
 use stock::Refusal;
 use stock::check_strip;
-ghost use Prim.Native.Nat.{_≤_};
 ghost use mathlib.Core.Path.{_≡_};
-ghost use lib.ListN.{length, take};
 ghost use Rattle.endless.specs.Answers.{nextPaperAnswer, nextPaperAfter};
 
 // How the stepping ended: 1 found, 2 none left, 3 stopped; and the steps made.
@@ -14,16 +13,6 @@ pub struct Stepped {
     pub refusal: Refusal,
     pub outcome: u8,
     pub steps: u64,
-}
-
-// A copy of a strip, at the start of a word.
-fn copied(strip: &[u8]) -> [u8; 64]
-    requires { ⌜ length (now strip) ≤ 64 ⌝ }
-    ensures { λ r. ⌜ (length r ≡ 64) × (take (length (now (strip .entry))) r ≡ now (strip .entry)) ⌝ }
-{
-    let mut word: [u8; 64] = [0; 64];
-    copy(strip, &mut word);
-    word
 }
 
 // The strip becomes the next later standing strip, if that is found within the given steps.

@@ -5,7 +5,10 @@ ghost use Prim.Native.Nat.{ℕ, _≤_, _<_};
 ghost use mathlib.Core.List.{List};
 ghost use lib.ListN.{length};
 ghost use Rattle.rules.specs.Stock.{IsStrip};
-ghost use Rattle.endless.specs.Seeking.{Sought};
+ghost use Rattle.dictionary.specs.Dictionary.{dictionary};
+ghost use Rattle.searching.specs.Searching.{later};
+ghost use Rattle.searching.specs.Sought.{Sought};
+ghost use Rattle.standing.specs.Standing.{isStanding};
 
 // How a search ended, and the steps that it made.
 pub struct Ended {
@@ -16,7 +19,7 @@ pub struct Ended {
 // Moves a strip on to the next standing one, within the given steps. Where none is found the strip is left anywhere: the caller lends a copy.
 pub fn seek(strip: &mut [u8], given: u64) -> Ended
     requires { ⌜ (length (now strip) ≤ 64) × (0 < length (now strip)) ⌝ }
-    ensures { λ r. ⌜ ((counts : List ℕ) → IsStrip counts (now (strip .entry)) → Sought counts (now (strip .entry)) given (r .outcome) (r .steps) (now (strip .exit))) ⌝ }
+    ensures { λ r. ⌜ ((counts : List ℕ) → IsStrip counts (now (strip .entry)) → Sought isStanding (later (dictionary counts) (now (strip .entry))) given (now (strip .entry)) (r .outcome) (r .steps) (now (strip .exit))) ⌝ }
 {
     let mut steps: u64 = 0;
     loop {

@@ -15,6 +15,7 @@ use Rattle.running.proofs.Theorems.{run-one-outcome}
 use Rattle.replaying.proofs.Theorems.{one-outcome as replay-one-outcome}
 use Rattle.papers.proofs.Theorems.{one-outcome as same-paper-one-outcome}
 use Rattle.endless.proofs.Theorems.{stand-one-outcome, next-paper-one-outcome}
+use Rattle.spacing.proofs.Theorems.{one-outcome as next-apart-one-outcome}
 use Rattle.writing.proofs.Theorems.{one-outcome as write-sheet-one-outcome}
 use Rattle.reading.proofs.Theorems.{old-one-outcome as read-sheet-one-outcome, new-one-outcome as read-editions-one-outcome}
 use Rattle.rebuilding.proofs.Theorems.{one-outcome as rebuild-one-outcome}
@@ -56,6 +57,8 @@ use Rattle.exports.proofs.nelfrupi_stand.Kinds as stand
 use Rattle.exports.proofs.nelfrupi_stand.Reads as stand-reads
 use Rattle.exports.proofs.nelfrupi_next_paper.Kinds as next-paper
 use Rattle.exports.proofs.nelfrupi_next_paper.Reads as next-paper-reads
+use Rattle.exports.proofs.nelfrupi_next_apart.Kinds as next-apart
+use Rattle.exports.proofs.nelfrupi_next_apart.Reads as next-apart-reads
 use Rattle.exports.proofs.nelfrupi_write_sheet.Kinds as write-sheet
 use Rattle.exports.proofs.nelfrupi_write_sheet.Reads as write-sheet-reads
 use Rattle.exports.proofs.nelfrupi_read_sheet.Kinds as read-sheet
@@ -122,6 +125,9 @@ stand-one-outcome-for-c = stand-one-outcome
 
 pub next-paper-one-outcome-for-c : OneOutcome 2 next-paper.ps next-paper.r (λ κs s. s .1 .0 .now) next-paper-reads.Post
 next-paper-one-outcome-for-c = next-paper-one-outcome
+
+pub next-apart-one-outcome-for-c : OneOutcome 2 next-apart.ps next-apart.r (λ κs s. s .1 .0 .now) next-apart-reads.Post
+next-apart-one-outcome-for-c = next-apart-one-outcome
 
 pub write-sheet-one-outcome-for-c : OneOutcome 3 write-sheet.ps write-sheet.r (λ κs s. s .1 .1 .1 .0 .now) write-sheet-reads.Post
 write-sheet-one-outcome-for-c = write-sheet-one-outcome

@@ -35,6 +35,8 @@ use rewriting::rewrite::rewrite;
 use running::run::Ran;
 use running::run::run;
 use sheets::Written;
+use spacing::next_apart::Spaced;
+use spacing::next_apart::next_apart;
 use stock::Refusal;
 use walker::Walker;
 use walker::open::Opened;
@@ -56,6 +58,7 @@ ghost use Rattle.running.specs.Answers.{runAnswer, runStrip, runList};
 ghost use Rattle.replaying.specs.Answers.{replayAnswer, replayAfter};
 ghost use Rattle.papers.specs.Papers.{samePaperAnswer};
 ghost use Rattle.endless.specs.Answers.{standAnswer, standAfter, nextPaperAnswer, nextPaperAfter};
+ghost use Rattle.spacing.specs.Answers.{nextApartAnswer, nextApartAfter};
 ghost use Rattle.sheets.specs.Writing.{writeAnswer, writeSheet};
 ghost use Rattle.reading.specs.Reading.{readAnswer, readBuffer};
 ghost use Rattle.rebuilding.specs.Rebuilding.{rebuildAnswer, rebuildOut};
@@ -173,6 +176,19 @@ pub extern "C" fn nelfrupi_run(
     ensures { λ r. ⌜ (r ≡ runAnswer back (now (stock .entry)) (now (strip .entry)) walker (now (list .entry))) × (now (strip .exit) ≡ runStrip back (now (stock .entry)) (now (strip .entry)) walker (now (list .entry))) × (now (list .exit) ≡ runList back (now (stock .entry)) (now (strip .entry)) walker (now (list .entry))) ⌝ }
 {
     run(stock, strip, walker, back, list)
+}
+
+#[no_mangle]
+pub extern "C" fn nelfrupi_next_apart(
+    stock: &[u16],
+    strip: &mut [u8],
+    walker: Walker,
+    endless: bool,
+    moves: u64,
+) -> Spaced
+    ensures { λ r. ⌜ (r ≡ nextApartAnswer endless (now (stock .entry)) (now (strip .entry)) walker moves) × (now (strip .exit) ≡ nextApartAfter endless (now (stock .entry)) (now (strip .entry)) walker moves) ⌝ }
+{
+    next_apart(stock, strip, walker, endless, moves)
 }
 
 #[no_mangle]

@@ -15,10 +15,11 @@ use Rattle.rules.proofs.Prefixes.{total-some}
 use Rattle.dictionary.specs.Dictionary.{dictionary}
 use Rattle.dictionary.proofs.Theorems.{dictionary-size, dictionary-only, dictionary-place, dictionary-undone, dictionary-below}
 use Rattle.searching.specs.Searching.{later, outcome, stepsMade, foundOr, passing}
+use Rattle.searching.proofs.Later.{later-place}
 use Rattle.searching.proofs.Theorems.{Found, is-found, found-is}
 use Rattle.searching.proofs.Passing.{passing-first, passing-at, passing-all, found-reached, none-reached}
 use Rattle.standing.specs.Standing.{isStanding}
-use Rattle.endless.proofs.Later.{later-place}
+use Rattle.endless.proofs.Later.{own-place}
 use Rattle.endless.proofs.Listing.{first-standing}
 
 -- ---- lists
@@ -124,5 +125,5 @@ module _ (counts : List ℕ) (most reach : ℕ) where
               record {
                 within = omega (arith, length-take most all, n .0);
                 strip = getD-take most all (suc i) [] few ∙ n .1 ∙ sym (is .2 s);
-                place = rw (is .2 s, is .1) (later-place counts s (entry .own) m (f .within));
+                place = rw (is .2 s, is .1) (later-place (dictionary counts) s (own-place counts) m (f .within));
               }

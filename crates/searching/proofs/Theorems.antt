@@ -1,13 +1,15 @@
 -- Theorems on a search: what found, none left and stopped mean, that they exclude each other, and that one always holds.
 use Prim.Native.Nat.{ℕ, suc, min, _≤_, _<_}
-use mathlib.Core.Path.{_≡_, sym, _∙_}
+use mathlib.Core.Path.{_≡_, refl, sym, _∙_}
 use mathlib.Core.Bool.{Bool, true, false}
 use mathlib.Core.Logic.{_⊎_, inl, inr}
 use mathlib.Core.List.{List, []}
 use native.Mathlib.Decide.{decLt}
 use native.Mathlib.Omega.{arith}
 use borrow.Author.Tests.{lt-ltb, le-ltb, le-leb, lt-leb}
+use lib.Dec.{leb}
 use lib.ListN.{length, getD}
+use Rattle.rules.specs.Refusals.{pick}
 use Rattle.searching.specs.Searching.{passedOver, isFound, outcome, stepsMade, foundOr}
 use Rattle.searching.proofs.First.{passed-over-fail, passed-over-passes, fail-passed-over, passes-passed-over}
 
@@ -33,6 +35,10 @@ pub data Ends (test : List ℕ → Bool) (l : List (List ℕ)) (given : ℕ) : T
   found : (m : ℕ) → Found test l given m → Ends test l given
   none-left : NoneLeft test l given → Ends test l given
   stopped : Stopped test l given → Ends test l given
+
+two-or-three : (b : Bool) → pick b 2 3 ≡ 1 → ⊥
+two-or-three true e = omega arith
+two-or-three false e = omega arith
 
 module _ (test : List ℕ → Bool) (l : List (List ℕ)) (given : ℕ) where
   pub ends : Ends test l given
@@ -98,14 +104,27 @@ module _ (test : List ℕ → Bool) (l : List (List ℕ)) (given : ℕ) where
       go (none-left n) = absurd (omega (arith, none-left-is n .0))
       go (stopped n) = n
 
+  -- whether one is found, by the answer
+  pub found-so : outcome test l given ≡ 1 → isFound test l given ≡ true
+  unfolding outcome
+  found-so o = go (isFound test l given) refl
+    where
+      go : (b : Bool) → isFound test l given ≡ b → b ≡ true
+      go true e = refl
+      go false e = absurd (two-or-three (leb (length l) given) (rw e at o))
+
+  pub not-found-so : (outcome test l given ≡ 1 → ⊥) → isFound test l given ≡ false
+  unfolding outcome
+  not-found-so h = go (isFound test l given) refl
+    where
+      go : (b : Bool) → isFound test l given ≡ b → b ≡ false
+      go true e = absurd (h (rw e))
+      go false e = refl
+
   -- where none is found the strip stays
   pub not-found : (outcome test l given ≡ 1 → ⊥) → (s : List ℕ) → foundOr test l given s ≡ s
-  not-found h s = go ends
-    where
-      go : Ends test l given → foundOr test l given s ≡ s
-      go (found m f) = absurd (h (found-is m f .0))
-      go (none-left n) = none-left-is n .2 s
-      go (stopped n) = stopped-is n .2 s
+  unfolding foundOr
+  not-found h s = rw (not-found-so h)
 
   -- no more steps are made than were given
   pub few-steps : stepsMade test l given ≤ given

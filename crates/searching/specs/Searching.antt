@@ -1,4 +1,4 @@
--- TO BE BELIEVED. Document 02, P7: from a strip, the next later strip of a list that passes a test, within a given number of steps along the list;
+-- TO BE BELIEVED. Document 02, P7 and P13: from a strip, the next later strip of a list that passes a test, within a given number of steps along the list;
 -- all that pass; and whether some strip of a list does, or is a given one.
 use Prim.Native.Nat.{ℕ, suc, min, _+_}
 use mathlib.Core.Bool.{Bool, false, cond, _||_}

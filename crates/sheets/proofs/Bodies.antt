@@ -1,13 +1,12 @@
 -- Proofs. The bytes of a record: its kind, and its body with zeros behind what is copied into it.
-use Prim.Native.Nat.{ℕ, zero, suc, _-_, _≤_, _<_}
+use Prim.Native.Nat.{ℕ, suc, _-_, _≤_, _<_}
 use mathlib.Core.Path.{_≡_, refl, _∙_}
 use mathlib.Core.List.{List, [], _∷_, _++_}
 use native.Mathlib.Numerals.{one-add}
-use native.Mathlib.Nat.{sub-zero, zero-sub, suc-sub-suc}
 use native.Mathlib.Omega.{arith}
 use borrow.Rule.Slice.PartMut.{putMid}
-use lib.ListN.{length, take, drop, set, replicate, length-append, length-replicate}
-use lib.Seq.{take-at}
+use lib.ListN.{length, drop, set, replicate}
+use Rattle.copying.proofs.Copies.{zeros-left, copy-length}
 use Rattle.sheets.specs.Sheets.{padded}
 use Rattle.sheets.proofs.Rest.{restOf, more}
 
@@ -32,23 +31,13 @@ kind-and-body l kind body ys h e f =
 
 -- ---- a body with zeros
 
-zeros : (n m : ℕ) → drop m (replicate {A = ℕ} n 0) ≡ replicate (n - m) 0
-zeros n zero = rw (sub-zero n)
-zeros zero (suc m) = rw (zero-sub (suc m))
-zeros (suc n) (suc m) = rw (suc-sub-suc n m) (zeros n m)
-
 pub padded-is : (n : ℕ) (l : List ℕ) → l ++ drop (length l) (replicate n 0) ≡ padded n l
 unfolding padded
-padded-is n l = rw (zeros n (length l))
+padded-is n l = rw (zeros-left n (length l))
 
 pub padded-long : (n : ℕ) (l : List ℕ) → length l ≤ n → length (padded n l) ≡ n
 unfolding padded
-padded-long n l h = length-append l (replicate (n - length l) 0) ∙ rw (length-replicate {A = ℕ} (n - length l) 0) (omega arith)
-
--- what was padded stands at the front
-pub padded-front : (n : ℕ) (l body : List ℕ) → body ≡ padded n l → take (length l) body ≡ l
-unfolding padded
-padded-front n l body e = rw e (take-at l (replicate (n - length l) 0) (length l) refl)
+padded-long n l h = copy-length n l (padded n l) refl h
 
 -- a record whose body is l with zeros, n bytes in all
 pub padded-record : (n kind : ℕ) (l body rest put : List ℕ) → length l ≤ n → body ≡ padded n l → put ≡ (kind ∷ body) ++ drop (suc (length body)) rest

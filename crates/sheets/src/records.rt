@@ -1,10 +1,11 @@
 // The records of a sheet. Each is written at the front of the rest of a sheet, and the bytes behind it stay.
+use copying::copied;
 ghost use Prim.Native.Nat.{suc, _≤_, _<_};
 ghost use mathlib.Core.Path.{_≡_};
 ghost use mathlib.Core.List.{_∷_, _++_};
 ghost use lib.ListN.{length, drop};
 ghost use Rattle.rules.specs.Stock.{IsStock};
-ghost use Rattle.sheets.specs.Sheets.{padded, stockRecord, stripRecord, endRecord};
+ghost use Rattle.sheets.specs.Sheets.{stockRecord, stripRecord, endRecord};
 
 // Bytes, as they stand.
 fn put_bytes(rest: &mut [u8], bytes: &[u8])
@@ -41,22 +42,12 @@ pub fn put_stock(rest: &mut [u8], stock: &[u16])
     put_record(rest, 1, &body);
 }
 
-// A strip, with zeros after its last place.
-pub fn padded_strip(strip: &[u8]) -> [u8; 64]
-    requires { ⌜ length (now strip) ≤ 64 ⌝ }
-    ensures { λ r. ⌜ r ≡ padded 64 (now (strip .entry)) ⌝ }
-{
-    let mut body: [u8; 64] = [0; 64];
-    put_bytes(&mut body, strip);
-    body
-}
-
 // The strip: 64 bytes, zero after its last place.
 pub fn put_strip(rest: &mut [u8], strip: &[u8])
     requires { ⌜ (length (now strip) ≤ 64) × (65 ≤ length (now rest)) ⌝ }
     ensures { λ _. ⌜ now (rest .exit) ≡ stripRecord (now (strip .entry)) ++ drop 65 (now (rest .entry)) ⌝ }
 {
-    let body = padded_strip(strip);
+    let body = copied(strip);
     put_record(rest, 2, &body);
 }
 

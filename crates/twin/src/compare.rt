@@ -11,6 +11,7 @@ use crate::rows::last;
 use crate::rows::strip_at;
 use crate::runs::make_listed;
 use crate::runs::run_agrees;
+use crate::search::compare_apart;
 use crate::single::count_agrees;
 use crate::single::first_agrees;
 use crate::single::number_agrees;
@@ -127,14 +128,20 @@ fn compare_through(tally: &mut Tally, stock: &[u16], book: &[u8], work: &mut [u8
     compare_way(tally, stock, book, work, back);
 }
 
+// The whole book, both ways.
+fn compare_both_ways(tally: &mut Tally, stock: &[u16], book: &[u8], work: &mut [u8]) {
+    compare_through(tally, stock, book, work, false);
+    compare_through(tally, stock, book, work, true);
+}
+
 // The book of a stock and the cuts of its strips, with a strip to work on.
 pub fn compare_book(tally: &mut Tally, stock: &[u16], book: &[u8], cuts: &[u8], work: &mut [u8]) {
     let first = strip_at(book, 0, work.len());
     note(tally, tally::COUNT, count_agrees(stock, book.len() / 8));
     note(tally, tally::FIRST, first_agrees(stock, first, work));
-    compare_through(tally, stock, book, work, false);
-    compare_through(tally, stock, book, work, true);
+    compare_both_ways(tally, stock, book, work);
     compare_strips(tally, stock, book, work);
     compare_cuts(tally, stock, book, cuts, work.len());
     compare_dictionary(tally, stock, book, work);
+    compare_apart(tally, stock, book, work);
 }

@@ -1,5 +1,6 @@
 // The strips of a book in dictionary order: one after the other is put into a list, in front of the first that it comes before.
 use crate::rows::block;
+use crate::rows::put_row;
 use crate::rows::strip_at;
 
 // Seven kinds of one block have the most strips.
@@ -68,6 +69,16 @@ pub fn arrange(order: &mut Order, book: &[u8], n: usize) {
     while i < strips {
         let index = index_for(order, i, book, strip_at(book, i, n));
         put_in(order, i, index, i);
+        i += 1;
+    }
+}
+
+// Puts the strips of a book, of n blocks each, into rows in an order.
+pub fn put_rows(rows: &mut [u8], book: &[u8], order: &Order, n: usize) {
+    let strips = book.len() / 8;
+    let mut i = 0;
+    while i < strips {
+        put_row(rows, i, strip_at(book, entry(order, i), n));
         i += 1;
     }
 }

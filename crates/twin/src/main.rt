@@ -2,11 +2,12 @@
 // blocks also with a kind without blocks before some of the kinds, and compares them number by number with what the calls answer. Words and strips are
 // listed one after the other: nothing is ranked, and no strip is moved to get the next one; and the uses of the pattern rule are counted as the lists of
 // words are written. The dictionary of a stock is its book, sorted by comparing strips block by block. The turns of a strip, as it stands and read backwards,
-// are written down one after the other, and the next paper is looked for in the sorted book. The strips that stood on the bar are written down one after the
-// other, and looked for in the book. For stocks of up to 4 blocks every strip is compared with every other, press sheets are made from the strips of the book,
-// cut and spoiled, and compared with what is rebuilt of them, sheets of both editions are made of moves and strides, right or wrong, and compared with what
-// is read, written and rewritten, and every list of up to four bytes from 0 to 5 is replayed, right or wrong. Of one book that no number of 64 bits counts,
-// the first strips and the last are written down, and its sheets compared.
+// are written down one after the other, and the next paper is looked for in the sorted book. The next strip without equal neighbours is looked for in the book
+// itself, for panels and for endless papers. The strips that stood on the bar are written down one after the other, and looked for in the book. For stocks of
+// up to 4 blocks every strip is compared with every other, press sheets are made from the strips of the book, cut and spoiled, and compared with what is
+// rebuilt of them, sheets of both editions are made of moves and strides, right or wrong, and compared with what is read, written and rewritten, and every
+// list of up to four bytes from 0 to 5 is replayed, right or wrong. Of one book that no number of 64 bits counts, the first strips and the last are written
+// down, and its sheets compared.
 mod books;
 mod compare;
 mod cuts;
@@ -28,6 +29,8 @@ mod runs;
 mod search;
 mod shelf;
 mod single;
+mod sought;
+mod spaced;
 mod spoiled;
 mod stocks;
 mod stood;

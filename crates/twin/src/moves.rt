@@ -7,14 +7,13 @@ use crate::rows::same;
 use crate::rows::strip_at;
 use crate::single::directed;
 use crate::single::is;
-use walker::open::open;
+use crate::single::opened_walker;
 use walking::Moved;
 use walking::walk::walk;
 
 // Walk with the walker that Open gives.
 fn walk_opened(stock: &[u16], work: &mut [u8], back: bool) -> Moved {
-    let opened = open(stock, work);
-    let walker = opened.walker;
+    let walker = opened_walker(stock, work);
     walk(stock, work, walker, back)
 }
 

@@ -79,6 +79,14 @@ pub fn copy(work: &mut [u8], strip: &[u8]) {
     }
 }
 
+// Puts a strip into the row of a number, and zeros behind it.
+pub fn put_row(rows: &mut [u8], i: usize, strip: &[u8]) {
+    if i < rows.len() / 8 {
+        let at = i * 8;
+        copy(&mut rows[at..at + 8], strip);
+    }
+}
+
 // Whether two strips are the same.
 pub fn same(one: &[u8], other: &[u8]) -> bool {
     if one.len() != other.len() {

@@ -8,12 +8,12 @@ use crate::rows::same;
 use crate::rows::strip_at;
 use crate::single::directed;
 use crate::single::is;
+use crate::single::opened_walker;
 use crate::tally::LISTED;
 use crate::tally::Tally;
 use crate::tally::note;
 use running::run::Ran;
 use running::run::run;
-use walker::open::open;
 
 // The moves that a list has room for, as far as the book goes.
 fn moves_of(list: &[u8], book: &[u8]) -> usize {
@@ -34,8 +34,7 @@ pub fn number_after(book: &[u8], back: bool, m: usize) -> usize {
 
 fn run_from(stock: &[u16], from: &[u8], work: &mut [u8], back: bool, list: &mut [u8]) -> Ran {
     copy(work, from);
-    let opened = open(stock, work);
-    let walker = opened.walker;
+    let walker = opened_walker(stock, work);
     run(stock, work, walker, back, list)
 }
 

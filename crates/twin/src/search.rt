@@ -1,172 +1,94 @@
-// Next paper compared with a book in dictionary order, in which each strip is marked that is the smallest of its turns.
+// The calls that search compared with strips in rows: Next paper with those of a dictionary, Next apart with those of a book. Which call it is, and for
+// Next apart whether the strip is hung endless, is told by the tally's number for it.
 use crate::dictionary::MOST;
 use crate::dictionary::Order;
-use crate::dictionary::entry;
+use crate::dictionary::put_rows;
 use crate::rows::copy;
+use crate::rows::directions_at;
+use crate::rows::front;
 use crate::rows::last;
 use crate::rows::same;
 use crate::rows::strip_at;
-use crate::single::is;
+use crate::sought::Marks;
+use crate::sought::Outcome;
+use crate::sought::Start;
+use crate::sought::answer_agrees;
+use crate::sought::due;
+use crate::sought::given_steps;
+use crate::sought::marked_from;
+use crate::sought::put_mark;
+use crate::sought::steps;
+use crate::sought::ways;
+use crate::spaced::apart_agrees;
+use crate::spaced::is_apart;
 use crate::tally;
 use crate::tally::Tally;
 use crate::tally::note;
 use crate::turns::stands;
-use endless::next_paper::Stepped;
 use endless::next_paper::next_paper;
 
-// At i whether the strip that stands at i in the dictionary is standing.
-type Marks = [bool; MOST];
-
-// Where a search begins: the index of its strip, that of the next standing one, which is behind the last where there is none, and the last index.
-struct Start {
-    index: usize,
-    next: usize,
-    last: usize,
-}
-
-// What is to come of a search: also the index of the strip that is then in the lent one.
-struct Outcome {
-    outcome: u8,
-    steps: u64,
-    index: usize,
-}
-
-fn is_marked(marks: &Marks, i: usize) -> bool {
-    if i < MOST {
-        return marks[i];
+// Whether a call looks for a strip: the smallest of its turns, or one without equal neighbours.
+fn is_sought(call: usize, strip: &[u8]) -> bool {
+    if call == tally::NEXT_PAPER {
+        return stands(strip);
     }
-    false
+    is_apart(strip, call == tally::APART_ENDLESS)
 }
 
-fn put_mark(marks: &mut Marks, i: usize, mark: bool) {
-    if i < MOST {
-        marks[i] = mark;
-    }
-}
-
-fn mark(marks: &mut Marks, book: &[u8], order: &Order, n: usize) {
-    let strips = book.len() / 8;
+fn mark(marks: &mut Marks, call: usize, rows: &[u8], n: usize) {
+    let strips = rows.len() / 8;
     let mut i = 0;
     while i < strips {
-        put_mark(marks, i, stands(strip_at(book, entry(order, i), n)));
+        put_mark(marks, i, is_sought(call, strip_at(rows, i, n)));
         i += 1;
     }
 }
 
-// The first marked index from one on, or the end.
-fn marked_from(marks: &Marks, from: usize, strips: usize) -> usize {
-    let mut i = from;
-    while i < strips {
-        if is_marked(marks, i) {
-            return i;
-        }
-        i += 1;
-    }
-    strips
-}
-
-// The steps from an index to a later one.
-fn steps(from: usize, to: usize) -> u64 {
-    if from <= to {
-        return (to - from) as u64;
-    }
-    0
-}
-
-// Found where a later strip is standing and the steps reach it; none left where none is, and they reach the last; else stopped.
-fn due(start: Start, given: u64) -> Outcome {
-    let index = start.index;
-    let next = start.next;
-    let to = steps(index, next);
-    let left = steps(index, start.last);
-    if next <= start.last {
-        if to <= given {
-            return Outcome {
-                outcome: 1,
-                steps: to,
-                index: next,
-            };
-        }
-    } else if left <= given {
-        return Outcome {
-            outcome: 2,
-            steps: left,
-            index,
-        };
-    }
-    Outcome {
-        outcome: 3,
-        steps: given,
-        index,
-    }
-}
-
-fn answer_agrees(stepped: Stepped, due: Outcome) -> bool {
-    if stepped.outcome != due.outcome {
-        return false;
-    }
-    if stepped.steps != due.steps {
-        return false;
-    }
+fn paper_agrees(stock: &[u16], work: &mut [u8], given: u64, due: Outcome) -> bool {
+    let stepped = next_paper(stock, work, given);
     let refusal = stepped.refusal;
-    is(refusal, 0)
+    answer_agrees(refusal, stepped.outcome, stepped.steps, due)
+}
+
+// A call on a lent strip, with what is to come of it, and the directions of the strip that it is to leave.
+fn call_agrees(
+    call: usize,
+    stock: &[u16],
+    work: &mut [u8],
+    given: u64,
+    due: Outcome,
+    directions: u8,
+) -> bool {
+    if call == tally::NEXT_PAPER {
+        return paper_agrees(stock, work, given, due);
+    }
+    let endless = call == tally::APART_ENDLESS;
+    apart_agrees(stock, work, endless, given, due, directions)
 }
 
 fn search_agrees(
+    call: usize,
     stock: &[u16],
-    book: &[u8],
-    order: &Order,
+    rows: &[u8],
     start: Start,
     given: u64,
     work: &mut [u8],
 ) -> bool {
     let n = work.len();
-    copy(work, strip_at(book, entry(order, start.index), n));
-    let stepped = next_paper(stock, work, given);
+    copy(work, strip_at(rows, start.index, n));
     let due = due(start, given);
-    if !same(work, strip_at(book, entry(order, due.index), n)) {
+    let directions = directions_at(rows, due.index);
+    if !call_agrees(call, stock, work, given, due, directions) {
         return false;
     }
-    answer_agrees(stepped, due)
-}
-
-// Given steps: 0 to 3, those to the last strip, one less, one more, and the most that there are.
-fn given_steps(way: u64, left: u64) -> u64 {
-    if way == 4 {
-        return left;
-    }
-    if way == 5 {
-        if 0 < left {
-            return left - 1;
-        }
-        return 0;
-    }
-    if way == 6 {
-        if left < MOST as u64 {
-            return left + 1;
-        }
-    }
-    if way == 7 {
-        return 18446744073709551615;
-    }
-    way
-}
-
-// How many ways of giving steps are tried. Far searches through the largest dictionaries would take long, so they begin there at each thirteenth strip.
-fn ways(n: usize, i: usize) -> u64 {
-    if 6 < n {
-        if i % 13 != 0 {
-            return 4;
-        }
-    }
-    8
+    same(work, strip_at(rows, due.index, n))
 }
 
 fn compare_search(
     tally: &mut Tally,
+    call: usize,
     stock: &[u16],
-    book: &[u8],
-    order: &Order,
+    rows: &[u8],
     start: Start,
     work: &mut [u8],
 ) {
@@ -177,8 +99,8 @@ fn compare_search(
         let given = given_steps(way, left);
         note(
             tally,
-            tally::NEXT_PAPER,
-            search_agrees(stock, book, order, start, given, work),
+            call,
+            search_agrees(call, stock, rows, start, given, work),
         );
         way += 1;
     }
@@ -186,24 +108,31 @@ fn compare_search(
 
 fn compare_searches(
     tally: &mut Tally,
+    call: usize,
     stock: &[u16],
-    book: &[u8],
-    order: &Order,
+    rows: &[u8],
     marks: &Marks,
     work: &mut [u8],
 ) {
-    let last = last(book);
-    let strips = book.len() / 8;
+    let last = last(rows);
+    let strips = rows.len() / 8;
     let mut i = 0;
     while i < strips {
         let index = i;
         i += 1;
         let next = marked_from(marks, i, strips);
-        compare_search(tally, stock, book, order, Start { index, next, last }, work);
+        compare_search(tally, call, stock, rows, Start { index, next, last }, work);
     }
 }
 
-// The searches in the dictionary of a book, with a strip to work on.
+// The searches of a call in some rows, with a strip to work on.
+fn compare_rows(tally: &mut Tally, call: usize, stock: &[u16], rows: &[u8], work: &mut [u8]) {
+    let mut marks: Marks = [false; MOST];
+    mark(&mut marks, call, rows, work.len());
+    compare_searches(tally, call, stock, rows, &marks, work);
+}
+
+// The searches in the dictionary of a book.
 pub fn compare_papers(
     tally: &mut Tally,
     stock: &[u16],
@@ -211,7 +140,19 @@ pub fn compare_papers(
     order: &Order,
     work: &mut [u8],
 ) {
-    let mut marks: Marks = [false; MOST];
-    mark(&mut marks, book, order, work.len());
-    compare_searches(tally, stock, book, order, &marks, work);
+    let mut rows: [u8; 8 * MOST] = [0; 8 * MOST];
+    put_rows(&mut rows, book, order, work.len());
+    compare_rows(
+        tally,
+        tally::NEXT_PAPER,
+        stock,
+        front(&rows, book.len()),
+        work,
+    );
+}
+
+// The searches in a book itself, for panels and for endless papers.
+pub fn compare_apart(tally: &mut Tally, stock: &[u16], book: &[u8], work: &mut [u8]) {
+    compare_rows(tally, tally::APART_PANEL, stock, book, work);
+    compare_rows(tally, tally::APART_ENDLESS, stock, book, work);
 }

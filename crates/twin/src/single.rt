@@ -72,3 +72,9 @@ pub fn open_agrees(stock: &[u16], blocks: &[u8], directions: u8) -> bool {
     let walker = opened.walker;
     directed(walker, directions)
 }
+
+// The walker that Open gives.
+pub fn opened_walker(stock: &[u16], blocks: &[u8]) -> Walker {
+    let opened = open(stock, blocks);
+    opened.walker
+}

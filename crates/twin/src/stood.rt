@@ -6,6 +6,7 @@ use crate::rows::exchange;
 use crate::rows::front;
 use crate::rows::last;
 use crate::rows::least;
+use crate::rows::put_row;
 use crate::rows::same;
 use crate::rows::strip_at;
 use crate::tally;
@@ -98,13 +99,6 @@ fn told(book: &[u8], rows: &[u8], n: usize, from: usize) -> Outcome {
         different,
         missing,
         to: row_of(book, strip_at(rows, last(rows), n)),
-    }
-}
-
-fn put_row(rows: &mut [u8], i: usize, strip: &[u8]) {
-    if i < rows.len() / 8 {
-        let at = i * 8;
-        copy(&mut rows[at..at + 8], strip);
     }
 }
 

@@ -93,6 +93,10 @@ pub const REWRITE_REFUSED: usize = 42;
 
 pub const REWRITE_AGAIN: usize = 43;
 
+pub const APART_PANEL: usize = 44;
+
+pub const APART_ENDLESS: usize = 45;
+
 fn add_one(tally: &mut Tally, i: usize) {
     if i < 128 {
         let seen = tally[i];
@@ -167,6 +171,8 @@ fn print_papers(tally: &Tally) {
     line(b"Stand: ", tally, STAND);
     line(b"Stand again: ", tally, STAND_AGAIN);
     line(b"Next paper: ", tally, NEXT_PAPER);
+    line(b"Next apart, panel: ", tally, APART_PANEL);
+    line(b"Next apart, endless: ", tally, APART_ENDLESS);
 }
 
 fn print_sheets(tally: &Tally) {

@@ -1,5 +1,5 @@
 // The moves of a sheet: the lent strip walks on, and so does its walker.
-use sheets::records::padded_strip;
+use copying::copied;
 use sheets::records::put_move;
 use walker::Walker;
 use walking::stepping::step;
@@ -38,7 +38,7 @@ pub fn moves_up_to(stock: &[u16], strip: &[u8], walker: Walker, most: usize) -> 
     ensures { λ r. ⌜ r ≡ min most (left (now (stock .entry)) (now (strip .entry))) ⌝ }
 {
     let n = strip.len();
-    let mut word = padded_strip(strip);
+    let mut word = copied(strip);
     walk_up_to(stock, &mut word[..n], walker, most)
 }
 

@@ -1,6 +1,6 @@
 // A whole sheet.
 use crate::moves::put_moves;
-use sheets::records::padded_strip;
+use copying::copied;
 use sheets::records::put_end;
 use sheets::records::put_stock;
 use sheets::records::put_strip;
@@ -21,7 +21,7 @@ pub fn put_sheet(sheet: &mut [u8], stock: &[u16], strip: &[u8], walker: Walker, 
     put_stock(sheet, stock);
     put_strip(&mut sheet[17..], strip);
     let n = strip.len();
-    let mut word = padded_strip(strip);
+    let mut word = copied(strip);
     put_moves(&mut sheet[82..], stock, &mut word[..n], walker, moves);
     let at = 82 + 3 * moves;
     put_end(&mut sheet[at..]);

@@ -3,17 +3,19 @@ use Prim.Native.Nat.{ℕ, _≤_, _<_}
 use mathlib.Core.Path.{_≡_, sym, ap, _∙_}
 use mathlib.Core.List.{List}
 use native.Mathlib.Omega.{arith}
-use lib.ListN.{length}
+use lib.ListN.{length, take}
 use borrow.Author.Needs.{needs}
 use Rattle.rules.specs.Stock.{IsStock, IsStrip}
 use Rattle.rules.specs.Refusals.{firstOf, checkNos}
-use Rattle.rules.proofs.Checks.{accepted-both}
+use Rattle.rules.proofs.Checks.{some-blocks, accepted-both}
 use Rattle.rules.proofs.Strips.{strip-fits}
 use Rattle.stock.proofs.Tested.{passed, stopped}
-use Rattle.endless.specs.Seeking.{Sought}
-use Rattle.endless.proofs.Copies.{copy-whole, room, start, start-fits}
-use Rattle.endless.proofs.Later.{some-blocks}
-use Rattle.endless.proofs.Steps.{sought-as, stepped-refused, stepped-found, stepped-kept}
+use Rattle.copying.proofs.Copies.{copy-length, copy-start, copy-whole, room, start, start-fits}
+use Rattle.dictionary.specs.Dictionary.{dictionary}
+use Rattle.searching.specs.Searching.{later}
+use Rattle.searching.specs.Sought.{Sought}
+use Rattle.standing.specs.Standing.{isStanding}
+use Rattle.endless.proofs.Steps.{stepped-refused, stepped-found, stepped-kept}
 use Rattle.endless.proofs.next_paper.next_paper.Statement.{statement}
 use Rattle.endless.proofs.next_paper.next_paper.Tie as tie
 
@@ -51,16 +53,20 @@ module _ (c : tie.Else1) where
 copied-requires : tie.Need-copied-requires
 copied-requires c κs = short (c .before)
 
+-- the copy begins with the strip
+copy-is : (c : tie.After-copied) → take (length (strip (c .before .before))) (c .copied .result) ≡ strip (c .before .before)
+copy-is c = copy-start 64 (strip (c .before .before)) (c .copied .result) (c .copied .ensures)
+
 array-borrow-prefix-word : tie.Need-array-borrow-prefix-word
-array-borrow-prefix-word c = omega (arith, c .copied .ensures .0, short (c .before .before))
+array-borrow-prefix-word c = let e = c .before .before in omega (arith, copy-length 64 (strip e) (c .copied .result) (c .copied .ensures) (short e), short e)
 
 slice-aggregate-seek : tie.Need-slice-aggregate-seek
-slice-aggregate-seek c = sym (ap length (c .before .copied .ensures .1))
+slice-aggregate-seek c = sym (ap length (copy-is (c .before)))
 
 seek-requires : tie.Need-seek-requires
 seek-requires c κs =
     let e = c .before .before .before in
-    let l = ap length (c .before .copied .ensures .1) in
+    let l = ap length (copy-is (c .before)) in
     (omega (arith, l, short e), omega (arith, l, some e))
 
 -- what the search says of the strip
@@ -68,13 +74,11 @@ module _ (c : tie.After-seek) where
   abbrev e : tie.Else1
   e = c .before .before .before .before
 
-  sought : Sought (counts e) (strip e) (given e) (c .seek .result .outcome) (c .seek .result .steps) (c .seek .last .0)
-  sought =
-      let k = c .before .before .copied .ensures .1 in
-      sought-as (counts e) (strip e) _ (given e) _ _ _ k (c .seek .ensures (counts e) (rw k (good e .1)))
+  sought : Sought isStanding (later (dictionary (counts e)) (strip e)) (given e) (strip e) (c .seek .result .outcome) (c .seek .result .steps) (c .seek .last .0)
+  sought = let k = copy-is (c .before .before) in rw k at (c .seek .ensures (counts e) (rw k (good e .1)))
 
   long : length (c .seek .last .0) ≡ length (strip e)
-  long = c .seek .kept .0 ∙ ap length (c .before .before .copied .ensures .1)
+  long = c .seek .kept .0 ∙ ap length (copy-is (c .before .before))
 
 array-share-prefix-word : tie.Need-array-share-prefix-word
 array-share-prefix-word c = let q = c .before .before in room (length (strip (e q))) (q .seek .last .0) _ (long q)

@@ -7,12 +7,11 @@ use lib.ListN.{length}
 use borrow.Author.Needs.{needs}
 use Rattle.rules.specs.Stock.{IsStock, IsStrip}
 use Rattle.rules.specs.Refusals.{firstOf, checkNos}
-use Rattle.rules.proofs.Checks.{accepted-both}
+use Rattle.rules.proofs.Checks.{some-blocks, accepted-both}
 use Rattle.rules.proofs.Strips.{strip-fits}
 use Rattle.stock.proofs.Tested.{passed, stopped}
 use Rattle.standing.proofs.Theorems.{turn-least}
 use Rattle.endless.proofs.Hung.{stood-refused, stood-hung}
-use Rattle.endless.proofs.Later.{some-blocks}
 use Rattle.endless.proofs.stand.stand.Statement.{statement}
 use Rattle.endless.proofs.stand.stand.Tie as tie
 

@@ -7,10 +7,10 @@ use Rattle.twin.proofs.search.compare_search.Statement.{statement}
 use Rattle.twin.proofs.search.compare_search.Tie as tie
 
 abbrev Inv-loop : tie.InvT-loop
-Inv-loop tally₀ stock book order start work₀ left many way₀ tally work way = length work ≡ length work₀
+Inv-loop tally₀ call stock rows start work₀ left many way₀ tally work way = length work ≡ length work₀
 
 abbrev μ-loop : tie.MeasureT-loop
-μ-loop tally₀ stock book order start work₀ left many way₀ tally work way = many - way
+μ-loop tally₀ call stock rows start work₀ left many way₀ tally work way = many - way
 
 pub compare-search-spec : {M : Type 1} → statement M
 compare-search-spec =

@@ -7,10 +7,10 @@ use Rattle.twin.proofs.search.compare_searches.Statement.{statement}
 use Rattle.twin.proofs.search.compare_searches.Tie as tie
 
 abbrev Inv-loop : tie.InvT-loop
-Inv-loop tally₀ stock book order marks work₀ last strips i₀ tally work i = length work ≡ length work₀
+Inv-loop tally₀ call stock rows marks work₀ last strips i₀ tally work i = length work ≡ length work₀
 
 abbrev μ-loop : tie.MeasureT-loop
-μ-loop tally₀ stock book order marks work₀ last strips i₀ tally work i = strips - i
+μ-loop tally₀ call stock rows marks work₀ last strips i₀ tally work i = strips - i
 
 pub compare-searches-spec : {M : Type 1} → statement M
 compare-searches-spec =

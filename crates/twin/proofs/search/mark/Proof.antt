@@ -5,10 +5,10 @@ use Rattle.twin.proofs.search.mark.Statement.{statement}
 use Rattle.twin.proofs.search.mark.Tie as tie
 
 abbrev Inv-loop : tie.InvT-loop
-Inv-loop marks₀ book order n strips i₀ marks i = Unit {0}
+Inv-loop marks₀ call rows n strips i₀ marks i = Unit {0}
 
 abbrev μ-loop : tie.MeasureT-loop
-μ-loop marks₀ book order n strips i₀ marks i = strips - i
+μ-loop marks₀ call rows n strips i₀ marks i = strips - i
 
 pub mark-spec : {M : Type 1} → statement M
 mark-spec =
@@ -17,7 +17,6 @@ mark-spec =
     Inv-loop
     μ-loop
     (λ c. tt)
-    (λ c κs. tt)
     (λ c κs. tt)
     (λ c κs. tt)
     (λ c κs. tt)

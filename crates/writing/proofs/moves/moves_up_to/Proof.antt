@@ -5,23 +5,23 @@ use mathlib.Core.List.{List}
 use native.Mathlib.Omega.{arith}
 use lib.ListN.{length, take}
 use Rattle.rules.proofs.Strips.{strip-fits}
+use Rattle.copying.proofs.Copies.{copy-length, copy-start}
 use Rattle.walking.specs.Answers.{left}
-use Rattle.sheets.proofs.Bodies.{padded-long, padded-front}
 use Rattle.writing.proofs.moves.moves_up_to.Statement.{statement}
 use Rattle.writing.proofs.moves.moves_up_to.Tie as tie
 
 -- the copy that walks is the strip
-module _ (c : tie.After-padded-strip) where
+module _ (c : tie.After-copied) where
   abbrev begun : tie.Start
   begun = c .before .before .before
 
-  own : take (length (begun .args .strip .now)) (c .padded-strip .result) ≡ begun .args .strip .now
-  own = padded-front 64 (begun .args .strip .now) (c .padded-strip .result) (c .padded-strip .ensures)
+  own : take (length (begun .args .strip .now)) (c .copied .result) ≡ begun .args .strip .now
+  own = copy-start 64 (begun .args .strip .now) (c .copied .result) (c .copied .ensures)
 
-  fits : length (begun .args .strip .now) ≤ length (c .padded-strip .result)
+  fits : length (begun .args .strip .now) ≤ length (c .copied .result)
   fits =
       let short = strip-fits _ _ (begun .pre .stock) (begun .pre .strip) in
-      omega (arith, short, padded-long 64 (begun .args .strip .now) short, ap length (c .padded-strip .ensures))
+      omega (arith, short, copy-length 64 (begun .args .strip .now) (c .copied .result) (c .copied .ensures) short)
 
 returns : tie.Need-returns
 returns c =

@@ -6,9 +6,9 @@ use native.Mathlib.Omega.{arith}
 use borrow.Rule.Slice.PartMut.{putMid}
 use lib.ListN.{length, take, drop}
 use Rattle.rules.proofs.Strips.{strip-fits}
+use Rattle.copying.proofs.Copies.{copy-length, copy-start}
 use Rattle.sheets.specs.Sheets.{stockRecord, stripRecord, moveRecords, endRecord, sheetOf}
 use Rattle.sheets.proofs.Rest.{Filled, first, more, rest-long, same-long}
-use Rattle.sheets.proofs.Bodies.{padded-long, padded-front}
 use Rattle.writing.proofs.Listing.{of-same}
 use Rattle.writing.proofs.whole.put_sheet.Statement.{statement}
 use Rattle.writing.proofs.whole.put_sheet.Tie as tie
@@ -46,16 +46,16 @@ module _ (c : tie.After-put-strip) where
   stripped = more _ _ _ 17 (stocked one) 65 (c .put-strip .last .0) _ (omega (arith, begun one .pre .2)) (c .put-strip .kept .0) (c .put-strip .ensures)
 
 -- the strip that walks is the strip
-module _ (c : tie.After-padded-strip) where
+module _ (c : tie.After-copied) where
   abbrev two : tie.After-put-strip
   two = c .before .before .before
 
-  own : let a = begun (one two) .args in take (length (a .strip .now)) (c .padded-strip .result) ≡ a .strip .now
-  own = padded-front 64 (begun (one two) .args .strip .now) (c .padded-strip .result) (c .padded-strip .ensures)
+  own : let a = begun (one two) .args in take (length (a .strip .now)) (c .copied .result) ≡ a .strip .now
+  own = copy-start 64 (begun (one two) .args .strip .now) (c .copied .result) (c .copied .ensures)
 
 -- and its moves
 module _ (c : tie.After-put-moves) where
-  abbrev three : tie.After-padded-strip
+  abbrev three : tie.After-copied
   three = c .before .before .before
 
   abbrev at : ℕ
@@ -111,7 +111,7 @@ put-sheet-spec =
     (λ c. omega (arith, same-long _ _ _ _ (stripped (two c)), begun (one (two c)) .pre .2))
     (λ c. omega (arith, same-long _ _ _ _ (stripped (two c)), begun (one (two c)) .pre .2))
     (λ c. omega arith)
-    (λ c. let b = begun (one (two (c .before))) in omega (arith, short b, padded-long 64 (b .args .strip .now) (short b), ap length (c .before .padded-strip .ensures)))
+    (λ c. let b = begun (one (two (c .before))) in omega (arith, short b, copy-length 64 (b .args .strip .now) (c .before .copied .result) (c .before .copied .ensures) (short b)))
     (λ c. sym (ap length (own (c .before .before))))
     put-moves-requires
     (λ c. omega (arith, begun (one (two (three (c .before .before .before)))) .pre .2))

@@ -1,8 +1,8 @@
--- Proofs. `twin::search::marked_from` is safe and ends.
+-- Proofs. `twin::sought::marked_from` is safe and ends.
 use Prim.Native.Nat.{_-_}
 use native.Mathlib.Omega.{arith}
-use Rattle.twin.proofs.search.marked_from.Statement.{statement}
-use Rattle.twin.proofs.search.marked_from.Tie as tie
+use Rattle.twin.proofs.sought.marked_from.Statement.{statement}
+use Rattle.twin.proofs.sought.marked_from.Tie as tie
 
 abbrev Inv-loop : tie.InvT-loop
 Inv-loop marks from strips i₀ i = Unit {0}
