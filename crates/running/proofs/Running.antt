@@ -18,9 +18,8 @@ use Rattle.walker.specs.Walkers.{walkerOf}
 use Rattle.walking.specs.declared.Moved.{Moved}
 use Rattle.walking.specs.declared.finding.Found.{Found}
 use Rattle.walking.specs.Answers.{leftAlong}
-use Rattle.walking.specs.Checked.{Checked, found, asMade, stepAnswer, stepStrip}
-use Rattle.walking.proofs.OneMove.{Makes, found-none, found-some, moves}
-use Rattle.walking.proofs.Along.{none-left, some-left}
+use Rattle.walking.specs.Checked.{Checked, found, asMade}
+use Rattle.walking.proofs.OneMove.{Makes}
 use Rattle.walking.proofs.Walked as walks
 use Rattle.running.specs.declared.run.Ran.{Ran}
 use Rattle.running.specs.Answers.{runMoves, asRan, movesFrom}
@@ -57,10 +56,6 @@ module _ (d : Bool) (counts s list₀ t : List ℕ) (w : Walker) (list : List �
   pub same-list : length list ≡ length list₀
   same-list = rw (v .listed, length-append (movesFrom d counts s i) (drop (2 * i) list₀), length-drop (2 * i) list₀) (omega (arith, long, v .room))
 
-  -- how many strips are left where the run stands
-  here : leftAlong d counts t ≡ leftAlong d counts s - i
-  here = walks.here d counts s t w i k h (v .walked)
-
   -- where i moves are all, they are made
   all : (x : Ran) (b : Bool) → x ≡ asRan fine i b w → runMoves d counts s list₀ ≡ i → b ≡ eqb i (leftAlong d counts s) → Made d counts s list₀ x t list
   all x b a e f = record {
@@ -74,15 +69,15 @@ module _ (d : Bool) (counts s list₀ t : List ℕ) (w : Walker) (list : List �
     pub stop : m .kind ≡ 0 → (x : Ran) → x ≡ asRan fine i true w → Made d counts s list₀ x t list
     unfolding runMoves
     stop z x a =
-        let e : leftAlong d counts s ≡ i = omega (arith, none-left d counts t (found-none d counts t (checked .strip) m is z), here, v .walked .made) in
+        let e = walks.at-end d counts s t w i k h (v .walked) m is z in
         all x true a (omega (arith, e, v .room)) (sym (eq-eqb i (leftAlong d counts s) (sym e)))
 
     module _ (z : m .kind ≡ 0 → ⊥) where
       pub move : Makes d counts t (m .kind) (m .low) (m .high)
-      move = found-some d counts t (checked .strip) m is z
+      move = walks.move d counts s t w i k h (v .walked) m is z
 
       more : i < leftAlong d counts s
-      more = omega (arith, some-left d counts t (move .allowed), here)
+      more = walks.more d counts s t w i k h (v .walked) m is z
 
       -- the room is used
       pub full : i ≡ length list₀ / 2 → (x : Ran) → x ≡ asRan fine i false w → Made d counts s list₀ x t list
@@ -94,13 +89,11 @@ module _ (d : Bool) (counts s list₀ t : List ℕ) (w : Walker) (list : List �
           → Running d counts s list₀ u (r .walker) (set (set list (2 * i) (r .low)) (2 * i + 1) (r .high)) (i + 1)
       unfolding movesFrom
       on l r u made =
-          let makes = moves d counts t w checked m move in
-          let step : (r ≡ stepAnswer d counts t w) × (u ≡ stepStrip d counts t) = (made .0 ∙ makes .0, made .1 ∙ makes .1) in
-          let none : r .refusal .no ≡ 0 = ap (λ (r : Moved). r .refusal .no) (made .0) in
-          let p = walks.shown d counts s t w i k h (v .walked) r u step none in
+          let step = walks.as-step d counts s t w i k h (v .walked) m is z r u made in
+          let p = walks.shown d counts s t w i k h (v .walked) r u (step .1, step .2) (step .0) in
           let e : 2 * i + 2 ≡ 2 * suc i = omega arith in
           record {
-            walked = walks.on d counts s t w i k h (v .walked) r u step none;
+            walked = walks.on d counts s t w i k h (v .walked) r u (step .1, step .2) (step .0);
             room = omega (arith, v .room);
             listed = rw (add-one i, v .listed, p, append-assoc (movesFrom d counts s i) (r .low ∷ r .high ∷ []) _) (write-two (movesFrom d counts s i) list₀ (2 * i) (r .low) (r .high) long (omega (arith, v .room)) ∙ rw e);
           }

@@ -1,6 +1,6 @@
 -- Proofs. The search on its way: so many moves lead from the strip lent to the strip as it stands, and none of the strips passed is apart.
 use Prim.Native.Nat.{ℕ, _+_, _-_, _≤_, _<_}
-use mathlib.Core.Path.{_≡_, sym, ap, _∙_}
+use mathlib.Core.Path.{_≡_, sym, _∙_}
 use mathlib.Core.Bool.{Bool, true, false}
 use mathlib.Core.List.{List, []}
 use native.Mathlib.Numerals.{add-one}
@@ -14,10 +14,8 @@ use Rattle.rules.proofs.Strips.{moveOf}
 use Rattle.walker.specs.declared.Walker.{Walker}
 use Rattle.walking.specs.declared.Moved.{Moved}
 use Rattle.walking.specs.declared.finding.Found.{Found}
-use Rattle.walking.specs.Answers.{left}
 use Rattle.walking.specs.Checked.{Checked, found, asMade}
-use Rattle.walking.proofs.OneMove.{Makes, found-none, found-some, moves}
-use Rattle.walking.proofs.Along.{none-left, some-left}
+use Rattle.walking.proofs.OneMove.{Makes}
 use Rattle.walking.proofs.Walked as walks
 use Rattle.searching.specs.Searching.{later}
 use Rattle.searching.proofs.First.{Fail}
@@ -54,24 +52,21 @@ module _ (endless : Bool) (counts s : List ℕ) (given : ℕ) (t : List ℕ) (w 
   pub same-strip : length t ≡ length s
   same-strip = walks.same-length false counts s t w i k h (v .walked)
 
-  here : left counts t ≡ left counts s - i
-  here = walks.here false counts s t w i k h (v .walked)
-
   module _ (m : Found) (is : m ≡ found (length counts) (moveOf false counts t)) where
     -- no move is found: the end of the book is reached
     pub at-end : m .kind ≡ 0 → (r : Ended) → r ≡ asEnded 2 i w → Reached endless counts s given r t
     at-end z r e = rw e record {
       sought = sought-none (isApart endless) more given s i (v .none) t
-          (omega (arith, later-left counts s, none-left false counts t (found-none false counts t (checked .strip) m is z), here, v .walked .made)) (v .few);
+          (later-left counts s ∙ walks.at-end false counts s t w i k h (v .walked) m is z) (v .few);
       walker = v .walked .walker;
     }
 
     module _ (z : m .kind ≡ 0 → ⊥) where
       pub move : Makes false counts t (m .kind) (m .low) (m .high)
-      move = found-some false counts t (checked .strip) m is z
+      move = walks.move false counts s t w i k h (v .walked) m is z
 
       within : i < length more
-      within = omega (arith, later-left counts s, some-left false counts t (move .allowed), here)
+      within = omega (arith, later-left counts s, walks.more false counts s t w i k h (v .walked) m is z)
 
       -- the given moves are made
       pub at-given : i ≡ given → (r : Ended) → r ≡ asEnded 3 i w → Reached endless counts s given r t
@@ -81,8 +76,8 @@ module _ (endless : Bool) (counts s : List ℕ) (given : ℕ) (t : List ℕ) (w 
       module _ (f : i ≡ given → ⊥) (r : Moved) (u : List ℕ) (made : (r ≡ asMade m (length counts) w) × (u ≡ swap 0 t (m .low) (m .high))) where
         on : walks.Walked false counts s u (r .walker) (i + 1)
         on =
-            let makes = moves false counts t w checked m move in
-            walks.on false counts s t w i k h (v .walked) r u (made .0 ∙ makes .0, made .1 ∙ makes .1) (ap (λ (r : Moved). r .refusal .no) (made .0))
+            let step = walks.as-step false counts s t w i k h (v .walked) m is z r u made in
+            walks.on false counts s t w i k h (v .walked) r u (step .1, step .2) (step .0)
 
         pub next-length : length u ≡ length s
         next-length = walks.same-length false counts s u (r .walker) (i + 1) k h on

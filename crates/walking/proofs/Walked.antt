@@ -8,13 +8,15 @@ use native.Mathlib.Omega.{arith}
 use borrow.Author.Tests.{ne-eqb}
 use lib.ListN.{length}
 use Rattle.rules.specs.Stock.{IsStock, IsStrip}
-use Rattle.rules.specs.Neighbours.{places}
-use Rattle.rules.proofs.Strips.{strip-sum}
+use Rattle.rules.specs.Neighbours.{places, swap}
+use Rattle.rules.proofs.Strips.{moveOf, strip-sum}
 use Rattle.walker.specs.declared.Walker.{Walker}
 use Rattle.walker.specs.Walkers.{walkerOf}
 use Rattle.walking.specs.declared.Moved.{Moved}
+use Rattle.walking.specs.declared.finding.Found.{Found}
 use Rattle.walking.specs.Answers.{along, leftAlong, endNo}
-use Rattle.walking.specs.Checked.{Checked, stepAnswer, stepStrip}
+use Rattle.walking.specs.Checked.{Checked, found, asMade, stepAnswer, stepStrip}
+use Rattle.walking.proofs.OneMove.{Makes, found-none, found-some, moves}
 use Rattle.walking.proofs.Along.{none-left, some-left, along-none, along-strip, along-left, along-beside}
 use Rattle.walking.proofs.Stepped.{Step, step-refused, step-made}
 
@@ -62,3 +64,22 @@ module _ (d : Bool) (counts s t : List ℕ) (w : Walker) (i : ℕ) (k : IsStock 
 
       pub shown : places (along d counts s i) (along d counts s (suc i)) ≡ r .low ∷ r .high ∷ []
       shown = rw (← v .strip, ← to) (step .shown)
+
+  -- a move looked for from there
+  module _ (m : Found) (is : m ≡ found (length counts) (moveOf d counts t)) where
+    -- none is found: the end of the book is reached
+    pub at-end : m .kind ≡ 0 → leftAlong d counts s ≡ i
+    at-end z = omega (arith, none-left d counts t (found-none d counts t (checked .strip) m is z), here, v .made)
+
+    module _ (z : m .kind ≡ 0 → ⊥) where
+      pub move : Makes d counts t (m .kind) (m .low) (m .high)
+      move = found-some d counts t (checked .strip) m is z
+
+      pub more : i < leftAlong d counts s
+      more = omega (arith, some-left d counts t (move .allowed), here)
+
+      -- it is made: that is a step
+      pub as-step : (r : Moved) (u : List ℕ) → (r ≡ asMade m (length counts) w) × (u ≡ swap 0 t (m .low) (m .high)) → (r .refusal .no ≡ 0) × (r ≡ stepAnswer d counts t w) × (u ≡ stepStrip d counts t)
+      as-step r u e =
+          let makes = moves d counts t w checked m move in
+          (ap (λ (r : Moved). r .refusal .no) (e .0), e .0 ∙ makes .0, e .1 ∙ makes .1)
