@@ -10,6 +10,8 @@ use Rattle.rules.specs.Stock.{sum, total, tally, IsStrip}
 use Rattle.rules.specs.Book.{book, same, placeIn}
 use Rattle.rules.proofs.Places.{same-self, same-true, place-same, place-undone, place-below, book-size}
 use Rattle.searching.specs.Searching.{passing, some, isAmong}
+use Rattle.searching.proofs.First.{passed-over-within, fail-passed-over}
+use Rattle.searching.proofs.Some.{some-hit}
 use Rattle.searching.proofs.Amounts.{passing-fewer, none-fails-all-pass, all-pass-none-fails, as-many-pass, one-more-passes}
 use Rattle.bar.specs.Bar.{exchanged, made, stood, different, distinct, missing}
 use Rattle.bar.proofs.Pairs.{Right}
@@ -69,6 +71,14 @@ module _ (counts : List ℕ) where
 
     pub all-none-missing : different l (book counts) ≡ total counts → missing l (book counts) ≡ total counts
     all-none-missing e = all-pass-none-fails (isAmong l) (book counts) (e ∙ sym (book-size counts)) ∙ book-size counts
+
+  -- none is where all of them stand
+  pub book-not-missing : missing (book counts) (book counts) ≡ total counts
+  book-not-missing =
+      let here : (k : ℕ) → k < length (book counts) → isAmong (book counts) (strip k) ≡ true = λ k l. some-hit (λ t. same t (strip k)) (book counts) k l (same-self (strip k)) in
+      let test : List ℕ → Bool = λ s. not (isAmong (book counts) s) in
+      let f = fail-passed-over test (length (book counts)) (book counts) (omega arith) (λ k l. ap not (here k l)) in
+      omega (arith, f, passed-over-within test (book counts), book-size counts)
 
 -- ---- by the number of pairs
 

@@ -5,4 +5,5 @@ pub mod Exchanged
 pub mod Next
 pub mod Different
 pub mod Listed
+pub mod EndToEnd
 pub mod Marked

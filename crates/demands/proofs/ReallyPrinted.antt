@@ -1,6 +1,6 @@
 -- Document 02, P9. What did the press really print? All is said over the contracts of Replay and Run.
 use Prim.Native.Nat.{ℕ, _+_, _*_, _/_, _≤_, _<_}
-use mathlib.Core.Path.{_≡_, sym, _∙_}
+use mathlib.Core.Path.{_≡_, refl, sym, _∙_}
 use mathlib.Core.Bool.{true, false, not}
 use mathlib.Core.List.{List, []}
 use native.Mathlib.Omega.{arith}
@@ -16,7 +16,7 @@ use Rattle.walker.specs.declared.Walker.{Walker}
 use Rattle.running.specs.declared.run.Ran.{Ran}
 use Rattle.running.specs.Answers.{movesFrom}
 use Rattle.running.proofs.Theorems.{RunRight, run-right}
-use Rattle.running.proofs.ThereAndBack.{comes-to, lists}
+use Rattle.running.proofs.OneAfterOther.{Led, led-once}
 use Rattle.running.proofs.run.run.Kinds as run
 use Rattle.running.proofs.run.run.Reads as run-reads
 use Rattle.searching.specs.Searching.{isAmong}
@@ -24,7 +24,8 @@ use Rattle.searching.proofs.First.{passed-over-within, passed-over-fail, passed
 use Rattle.bar.specs.Bar.{stood, distinct}
 use Rattle.bar.proofs.Exchanged.{stood-strips}
 use Rattle.bar.proofs.Different.{different-distinct, different-within, different-pairs, none-missing-all, all-none-missing}
-use Rattle.bar.proofs.Listed.{Replays, replays, whole-book}
+use Rattle.bar.proofs.Listed.{Replays, replays}
+use Rattle.bar.proofs.EndToEnd.{whole-book}
 use Rattle.replaying.specs.declared.replay.Replayed.{Replayed}
 use Rattle.replaying.proofs.Theorems.{ReplayRight, replay-right}
 use Rattle.replaying.proofs.replay.replay.Kinds as replay
@@ -90,32 +91,32 @@ pub record RunReplayed (counts s : List ℕ) (x : Ran) (t : List ℕ) (y : Repla
   pub same-end : y .refusal .no ≡ 0 → u ≡ t
   pub whole : y .refusal .no ≡ 0 → placeIn (book counts) s ≡ 0 → x .moves + 1 ≡ total counts → (y .missing ≡ total counts) × (y .different ≡ total counts)
 
-module _ (counts s : List ℕ) (w : Walker) (own : length (w .back) ≡ 16) (list₀ : List ℕ) (x : Ran) (t list : List ℕ) (ran : RunRight false counts s w list₀ x t list) (z : x .refusal .no ≡ 0)
+module _ (counts s : List ℕ) (w : Walker) (list₀ : List ℕ) (x : Ran) (t list : List ℕ) (ran : RunRight false counts s w list₀ x t list) (z : x .refusal .no ≡ 0)
     (y : Replayed) (u : List ℕ) (again : ReplayRight counts s (take (2 * x .moves) list) y u) where
   strip : IsStrip counts s
-  strip = ran .accepts own z .1
+  strip = ran .accepts z .1
 
-  listed : take (2 * x .moves) list ≡ movesFrom false counts s (x .moves)
-  listed = lists false counts s w list₀ x t list ran z strip
+  led : Led false counts s (take (2 * x .moves) list) (x .moves) t
+  led = led-once false counts s w list₀ x t list ran z
 
-  made : Replays counts s strip (x .moves)
-  made = replays counts s strip (x .moves) (ran .number z .0)
+  made : Replays false counts s strip (x .moves)
+  made = replays false counts s strip (x .moves) (led .within)
 
   as-listed : ReplayRight counts s (movesFrom false counts s (x .moves)) y u
-  as-listed = rw listed at again
+  as-listed = rw (led .listed) at again
 
   run-again : RunReplayed counts s x t y u
   run-again = record {
-    accepted = λ l. as-listed .accepted (ran .accepts own z .0) strip l (made .right);
-    all-walked = λ e. as-listed .walks e ∙ made .all;
-    same-end = λ e. as-listed .leaves e ∙ made .leads ∙ sym (comes-to false counts s w list₀ x t list ran z);
-    whole = λ e f g. let all = whole-book counts s strip f (x .moves) g in (as-listed .misses e ∙ all .0, as-listed .differs e ∙ all .1);
+    accepted = λ l. as-listed .accepted (ran .accepts z .0) strip l (made .right);
+    all-walked = λ e. as-listed .walks e ∙ made .all refl;
+    same-end = λ e. as-listed .leaves e ∙ made .leads ∙ sym (led .there);
+    whole = λ e f g. let all = whole-book counts s strip _ (x .moves) t led f g in (again .misses e ∙ all .0, again .differs e ∙ all .1);
   }
 
 pub run-replayed : (κs : Lfts 3) (a : Dens κs run.ps) (x : Ran) (s : AtExit (endedOf 3 run.ps run.r) κs) → run-reads.Post κs a x s
     → (μs : Lfts 3) (b : Dens μs replay.ps) (y : Replayed) (t : AtExit (endedOf 3 replay.ps replay.r) μs) → replay-reads.Post μs b y t
-    → length (a .1 .1 .0 .back) ≡ 16 → x .refusal .no ≡ 0 → a .1 .1 .1 .0 ≡ false
+    → x .refusal .no ≡ 0 → a .1 .1 .1 .0 ≡ false
     → b .0 .now ≡ a .0 .now → b .1 .0 .now ≡ a .1 .0 .now → b .1 .1 .0 .now ≡ take (2 * x .moves) (s .1 .1 .1 .1 .0 .now)
     → RunReplayed (a .0 .now) (a .1 .0 .now) x (s .1 .0 .now) y (t .1 .0 .now)
-run-replayed κs a x s h μs b y t k own z on stock strip pairs =
-    run-again _ _ _ own _ x _ _ (rw on at (run-right κs a x s h)) z y _ (rw (stock, strip, pairs) at (replay-right μs b y t k))
+run-replayed κs a x s h μs b y t k z on stock strip pairs =
+    run-again _ _ _ _ x _ _ (rw on at (run-right κs a x s h)) z y _ (rw (stock, strip, pairs) at (replay-right μs b y t k))

@@ -63,6 +63,13 @@ module _ (below : List ℕ) where
       ∙ ap (snake false) (map-agree _ (λ w. renamed (length below) w ∷ []) (book below) [] one-laid)
       ∙ snake-ones (renamed (length below)) false (book below))
 
+  -- and no kind is above it to be renamed
+  pub last-sold-out : book (below ++ (0 ∷ [])) ≡ book below
+  last-sold-out =
+      rw (append-nil below) at sold-out-last
+      ∙ map-agree (renamed (length below)) (λ s. s) (book below) [] (λ i h. renamed-below (length below) _ (λ p l. book-only below i (omega (arith, book-size below)) .kinds p l .1))
+      ∙ map-id (book below)
+
 -- one kind more above them: the patterns are the same, laid as a kind called one higher
 module _ (below above : List ℕ) (c : ℕ) where
   abbrev kind : ℕ

@@ -3,4 +3,5 @@ mod Listed
 mod Running
 mod Refused
 pub mod Theorems
+pub mod OneAfterOther
 pub mod ThereAndBack

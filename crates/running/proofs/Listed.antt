@@ -1,5 +1,5 @@
--- Proofs. The places of the moves from a strip: two a move; and those of the way back are those of the way there in reverse order.
-use Prim.Native.Nat.{ℕ, zero, suc, _*_, _-_, _≤_, _<_}
+-- Proofs. The places of the moves from a strip: two a move; those of moves and then of more from where they lead; and those of the way back, which are those of the way there in reverse order.
+use Prim.Native.Nat.{ℕ, zero, suc, _+_, _*_, _-_, _≤_, _<_}
 use mathlib.Core.Path.{_≡_, refl, sym, ap, _∙_}
 use mathlib.Core.Bool.{Bool, not}
 use mathlib.Core.List.{List, [], _∷_, _++_, append-nil, append-assoc}
@@ -9,7 +9,7 @@ use Rattle.rules.specs.Stock.{IsStrip}
 use Rattle.rules.specs.Neighbours.{places}
 use Rattle.rules.proofs.Neighbours.{places-sym}
 use Rattle.walking.specs.Answers.{along, leftAlong}
-use Rattle.walking.proofs.Along.{along-places, along-back}
+use Rattle.walking.proofs.Along.{along-further, along-places, along-back}
 use Rattle.running.specs.Answers.{movesFrom}
 use Rattle.running.specs.Reversed.{inReverse}
 
@@ -27,6 +27,15 @@ module _ (d : Bool) (counts s : List ℕ) (h : IsStrip counts s) where
   moves-long (suc i) l =
       let m = along-places d counts s h i l in
       rw (m .2) (length-append (movesFrom d counts s i) (m .0 ∷ m .1 ∷ []) ∙ omega (arith, moves-long i (omega arith)))
+
+  -- m moves, and then i more from where they lead
+  pub moves-further : (m : ℕ) → m ≤ leftAlong d counts s → (i : ℕ) → movesFrom d counts s m ++ movesFrom d counts (along d counts s m) i ≡ movesFrom d counts s (m + i)
+  unfolding movesFrom
+  moves-further m l zero = let e : m + 0 ≡ m = omega arith in rw e (append-nil (movesFrom d counts s m))
+  moves-further m l (suc i) =
+      let e : m + suc i ≡ suc (m + i) = omega arith in
+      rw (along-further d counts s h m l i, along-further d counts s h m l (suc i), e, ← moves-further m l i)
+      (sym (append-assoc (movesFrom d counts s m) (movesFrom d counts (along d counts s m) i) (places (along d counts s (m + i)) (along d counts s (suc (m + i))))))
 
   -- the moves of the way back are those of the way there, from the last to the first
   module _ (m : ℕ) (l : m ≤ leftAlong d counts s) where

@@ -43,7 +43,8 @@ run-one-outcome κs a x y s t h k =
 -- left; it says yes exactly where none is left; the strip and the walker are those that as many moves of Walk leave; the list has the places of the moves, and
 -- later bytes stay. Refused, it gives 0, no and the walker that was lent, and leaves the strip and the list
 pub record RunRight (d : Bool) (counts s : List ℕ) (w : Walker) (list₀ : List ℕ) (r : Ran) (t list : List ℕ) : Type 0 where
-  pub accepts : length (w .back) ≡ 16 → r .refusal .no ≡ 0 → IsStock counts × IsStrip counts s × (w ≡ walkerOf counts s)
+  pub accepts : r .refusal .no ≡ 0 → IsStock counts × IsStrip counts s
+  pub own-walker : length (w .back) ≡ 16 → r .refusal .no ≡ 0 → w ≡ walkerOf counts s
   pub accepted : IsStock counts → IsStrip counts s → w ≡ walkerOf counts s → r .refusal .no ≡ 0
   pub never-nine : r .refusal .no ≡ 9 → ⊥
   pub strip : r .refusal .no ≡ 0 → IsStrip counts t × (r .walker ≡ walkerOf counts t)
@@ -135,7 +136,8 @@ module _ (d : Bool) (counts s : List ℕ) (w : Walker) (list₀ : List ℕ) (r :
 
   right : RunRight d counts s w list₀ r t list
   right = record {
-    accepts = λ l z. (both z .0, both z .1, own-walker z l);
+    accepts = both;
+    own-walker = λ l z. own-walker z l;
     accepted = λ k h v. no-is ∙ ap (λ (r : No). r .0) (accepted-walker-back counts s w k h v);
     never-nine = λ e. never-nine counts s w (sym no-is ∙ e);
     strip = λ z. rw (strip-is z, answer-is z) (along-strip d counts s (both z .1) m (few .0), refl);

@@ -7,21 +7,20 @@ use native.Mathlib.Decide.{decLt}
 use native.Mathlib.Omega.{arith}
 use borrow.Author.Tests.{eqb-true}
 use lib.ListN.{length, take}
-use lib.Seq.{take-at}
 use contract.Lifetimes.{Lfts}
 use borrow.Fn.Kinds.{Dens, endedOf}
 use denote.Triple.Clauses.{AtExit}
 use Rattle.rules.specs.Stock.{IsStrip}
-use Rattle.rules.proofs.Places.{place-undone}
 use Rattle.walker.specs.declared.Walker.{Walker}
 use Rattle.walker.specs.Walkers.{walkerOf}
-use Rattle.walking.specs.Answers.{along, leftAlong}
-use Rattle.walking.proofs.Along.{along-none, along-left, along-back, back-left}
+use Rattle.walking.specs.Answers.{leftAlong}
+use Rattle.walking.proofs.Along.{along-none, along-back, back-left}
 use Rattle.running.specs.declared.run.Ran.{Ran}
 use Rattle.running.specs.Answers.{movesFrom}
 use Rattle.running.specs.Reversed.{inReverse}
-use Rattle.running.proofs.Listed.{moves-long, moves-back}
+use Rattle.running.proofs.Listed.{moves-back}
 use Rattle.running.proofs.Theorems.{RunRight, run-right}
+use Rattle.running.proofs.OneAfterOther.{Led, led-left, led-once}
 use Rattle.running.proofs.run.run.Kinds as run
 use Rattle.running.proofs.run.run.Reads as reads
 
@@ -35,15 +34,6 @@ pub record Undone (s : List ℕ) (w : Walker) (x : Ran) (there : List ℕ) (room
   pub walker : y .moves ≡ x .moves → y .walker ≡ w
   pub listed : y .moves ≡ x .moves → take (2 * x .moves) back ≡ inReverse (take (2 * x .moves) there)
 
--- where a run comes to, and the moves that it lists
-module _ (d : Bool) (counts s : List ℕ) (w : Walker) (list₀ : List ℕ) (r : Ran) (t list : List ℕ) (is : RunRight d counts s w list₀ r t list) (z : r .refusal .no ≡ 0) where
-  pub comes-to : t ≡ along d counts s (r .moves)
-  unfolding along
-  comes-to = rw (← is .number z .1) (sym (place-undone counts t (is .strip z .0)))
-
-  pub lists : IsStrip counts s → take (2 * r .moves) list ≡ movesFrom d counts s (r .moves)
-  lists h = rw (is .listed z) (take-at (movesFrom d counts s (r .moves)) _ (2 * r .moves) (moves-long d counts s h (r .moves) (is .number z .0)))
-
 module _ (d : Bool) (counts s : List ℕ) (w : Walker) (own : length (w .back) ≡ 16) (list₀ : List ℕ) (x : Ran) (t there : List ℕ)
     (first : RunRight d counts s w list₀ x t there) (z : x .refusal .no ≡ 0)
     (list₁ : List ℕ) (y : Ran) (u back : List ℕ) (second : RunRight (not d) counts t (x .walker) list₁ y u back) where
@@ -51,27 +41,24 @@ module _ (d : Bool) (counts s : List ℕ) (w : Walker) (own : length (w .back) �
   m = x .moves
 
   began : IsStrip counts s
-  began = first .accepts own z .1
+  began = first .accepts z .1
 
-  left : m ≤ leftAlong d counts s
-  left = first .number z .0
-
-  turn : t ≡ along d counts s m
-  turn = comes-to d counts s w list₀ x t there first z
+  led : Led d counts s (take (2 * m) there) m t
+  led = led-once d counts s w list₀ x t there first z
 
   passed : y .refusal .no ≡ 0
-  passed = second .accepted (first .accepts own z .0) (first .strip z .0) (first .strip z .1)
+  passed = second .accepted (first .accepts z .0) (first .strip z .0) (first .strip z .1)
 
-  came : u ≡ along (not d) counts t (y .moves)
-  came = comes-to (not d) counts t (x .walker) list₁ y u back second passed
+  led-back : Led (not d) counts t (take (2 * y .moves) back) (y .moves) u
+  led-back = led-once (not d) counts t (x .walker) list₁ y u back second passed
 
   -- with room left it would stand at the end of the book, which is m moves away at least
   as-many : length list₁ / 2 ≡ m → y .moves ≡ m
   as-many e = elim (decLt (y .moves) m) [
     | yes l ↦
         let f : leftAlong (not d) counts u ≡ 0 = eqb-true _ _ (sym (second .says passed) ∙ second .used passed (omega arith)) in
-        let g : leftAlong (not d) counts u ≡ leftAlong (not d) counts t - y .moves = rw came (along-left (not d) counts t (first .strip z .0) (y .moves) (second .number passed .0)) in
-        let k : m ≤ leftAlong (not d) counts t = rw turn (back-left d counts s began m left) in
+        let g : leftAlong (not d) counts u ≡ leftAlong (not d) counts t - y .moves = led-left (not d) counts t (first .strip z .0) _ (y .moves) u led-back in
+        let k : m ≤ leftAlong (not d) counts t = rw (led .there) (back-left d counts s began m (led .within)) in
         absurd (omega arith)
     | no l ↦ omega (arith, second .room passed)
   ]
@@ -81,15 +68,15 @@ module _ (d : Bool) (counts s : List ℕ) (w : Walker) (own : length (w .back) �
     same-strip : u ≡ s
     same-strip =
         let n : m - m ≡ 0 = omega arith in
-        came ∙ rw (e, turn) (along-back d counts s began m left m (omega arith) ∙ rw n (along-none d counts s began))
+        led-back .there ∙ rw (e, led .there) (along-back d counts s began m (led .within) m (omega arith) ∙ rw n (along-none d counts s began))
 
     same-walker : y .walker ≡ w
-    same-walker = second .strip passed .1 ∙ ap (walkerOf counts) same-strip ∙ sym (first .accepts own z .2)
+    same-walker = second .strip passed .1 ∙ ap (walkerOf counts) same-strip ∙ sym (first .own-walker own z)
 
     same-places : take (2 * m) back ≡ inReverse (take (2 * m) there)
     same-places =
-        let b : take (2 * m) back ≡ movesFrom (not d) counts t m = rw e at (lists (not d) counts t (x .walker) list₁ y u back second passed (first .strip z .0)) in
-        b ∙ rw (turn, lists d counts s w list₀ x t there first z began) (moves-back d counts s began m left)
+        let b : take (2 * m) back ≡ movesFrom (not d) counts t m = rw e at (led-back .listed) in
+        b ∙ rw (led .there, led .listed) (moves-back d counts s began m (led .within))
 
   undone : Undone s w x there (length list₁ / 2) y u back
   undone = record { accepted = passed; as-many = as-many; strip = same-strip; walker = same-walker; listed = same-places }

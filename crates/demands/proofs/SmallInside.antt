@@ -1,0 +1,148 @@
+-- Document 02, P14. The small stock inside the big one: with the blocks of the highest kind k off every strip, the book of the first k - 1 kinds, each strip C(N(k), N(k - 1)) times in a row. It is
+-- said over the book, and over what Run shows. A direction is true for back.
+use Prim.Native.Nat.{ℕ, suc, _+_, _*_, _/_, _≤_, _<_}
+use mathlib.Core.Path.{_≡_, sym, ap, _∙_}
+use mathlib.Core.Bool.{Bool, true, false}
+use mathlib.Core.List.{List, [], map}
+use native.Mathlib.Decide.{decLt}
+use native.Mathlib.Omega.{arith}
+use borrow.Author.Tests.{eqb-true, eq-eqb}
+use lib.ListN.{length, getD, take}
+use contract.Lifetimes.{Lfts}
+use borrow.Fn.Kinds.{Dens, endedOf}
+use denote.Triple.Clauses.{AtExit}
+use Rattle.rules.specs.Stock.{total, IsStrip}
+use Rattle.rules.specs.Book.{turn, book, placeIn}
+use Rattle.rules.proofs.Places.{place-below}
+use Rattle.walker.specs.declared.Walker.{Walker}
+use Rattle.walking.specs.Answers.{shifted, along, leftAlong}
+use Rattle.walking.proofs.Along.{along-strip, along-place}
+use Rattle.lifting.specs.Lifting.{small, lifted, times, eachInARow, smallBook}
+use Rattle.running.specs.declared.run.Ran.{Ran}
+use Rattle.running.specs.OneAfterOther.{allListed}
+use Rattle.running.proofs.Theorems.{RunRight, run-right}
+use Rattle.running.proofs.OneAfterOther.{Led, led-left, led-once, movesBy}
+use Rattle.running.proofs.OneAfterOther as runs
+use Rattle.running.proofs.run.run.Kinds as run
+use Rattle.running.proofs.run.run.Reads as run-reads
+use Rattle.bar.specs.Bar.{stood}
+use Rattle.bar.proofs.EndToEnd.{led-stands, led-turned, led-whole, all-left}
+-- over the book, in either direction; how many times as long it is; and strip by strip. None of these needs the premise
+pub use Rattle.lifting.proofs.Theorems.{small-inside, total-inside, small-at}
+-- the premise, two kinds and some blocks below kind k: under it the small book is that of an accepted stock
+pub use Rattle.lifting.proofs.Theorems.{small-accepted}
+-- small books, computed
+pub use Rattle.lifting.proofs.Marked.{on-1-1-2, back-1-1-2, on-2-0-3, on-0-3, on-3}
+
+-- ---- one run, by any outcome that is not a refusal
+
+module _ (κs : Lfts 3) (a : Dens κs run.ps) (r : Ran) (s : AtExit (endedOf 3 run.ps run.r) κs) (h : run-reads.Post κs a r s) (z : r .refusal .no ≡ 0) where
+  abbrev counts : List ℕ
+  counts = a .0 .now
+
+  abbrev strip : List ℕ
+  strip = a .1 .0 .now
+
+  abbrev back : Bool
+  back = a .1 .1 .1 .0
+
+  -- the places that it listed, and the strips that stand on the bar while these are exchanged
+  abbrev moves : List ℕ
+  moves = take (2 * r .moves) (s .1 .1 .1 .1 .0 .now)
+
+  abbrev bar : List (List ℕ)
+  bar = stood strip moves
+
+  right : RunRight back counts strip (a .1 .1 .0) (a .1 .1 .1 .1 .0 .now) r (s .1 .0 .now) (s .1 .1 .1 .1 .0 .now)
+  right = run-right κs a r s h
+
+  own : IsStrip counts strip
+  own = right .accepts z .1
+
+  some : 1 ≤ length counts
+  some = right .accepts z .0 .some
+
+  led : Led back counts strip moves (r .moves) (s .1 .0 .now)
+  led = led-once back counts strip (a .1 .1 .0) (a .1 .1 .1 .1 .0 .now) r (s .1 .0 .now) (s .1 .1 .1 .1 .0 .now) right z
+
+  -- from any strip: after i moves, without kind k, the small book's strip at the big one's number divided by C(N(k), N(k - 1))
+  pub small-number : (i : ℕ) → i ≤ r .moves → lifted counts (getD bar i []) ≡ getD (book (small counts)) (shifted back (placeIn (book counts) strip) i / times counts) []
+  unfolding along turn
+  small-number i l =
+      let few : i ≤ leftAlong back counts strip = omega (arith, led .within) in
+      let below : shifted back (placeIn (book counts) strip) i < total counts = rw (along-place back counts strip own i few) at (place-below counts (along back counts strip i) (along-strip back counts strip own i few)) in
+      ap (lifted counts) (led-stands back counts strip own moves (r .moves) (s .1 .0 .now) led i l) ∙ small-at counts some false (shifted back (placeIn (book counts) strip) i) below
+
+  -- from the first strip on, or from the last back
+  module _ (first : strip ≡ getD (turn back (book counts)) 0 []) where
+    -- after each C(N(k), N(k - 1)) moves the small bar moves once: after i moves it has made i / C(N(k), N(k - 1))
+    pub small-bar : (i : ℕ) → i ≤ r .moves → lifted counts (getD bar i []) ≡ getD (turn back (book (small counts))) (i / times counts) []
+    small-bar i l =
+        ap (lifted counts) (led-turned back counts strip own moves (r .moves) (s .1 .0 .now) led first i l)
+        ∙ small-at counts some back i (omega (arith, led .within, all-left back counts strip own first))
+
+    -- with room for T - 1 moves it says yes
+    pub run-ends : total counts ≤ length (a .1 .1 .1 .1 .0 .now) / 2 + 1 → r .ended ≡ true
+    run-ends room = elim (decLt (r .moves) (length (a .1 .1 .1 .1 .0 .now) / 2)) [
+      | yes l ↦ right .used z l
+      | no l ↦ right .says z ∙ eq-eqb (leftAlong back counts (s .1 .0 .now)) 0 (omega (arith, led-left back counts strip own moves (r .moves) (s .1 .0 .now) led, all-left back counts strip own first))
+    ]
+
+    -- and then it has shown the book in its direction, and without kind k the small book, each strip C(N(k), N(k - 1)) times in a row
+    module _ (ended : r .ended ≡ true) where
+      pub run-shows : bar ≡ turn back (book counts)
+      run-shows = led-whole back counts strip own moves (r .moves) (s .1 .0 .now) led first (eqb-true _ _ (sym (right .says z) ∙ ended))
+
+      pub run-inside : map (lifted counts) bar ≡ smallBook back counts
+      run-inside = ap (map (lifted counts)) run-shows ∙ small-inside counts some back
+
+-- two bars beside each other, the second with a stock that has the small book, as `small-accepted` names one: run end to end in one direction, the big one shows without kind k what the small one
+-- shows, each strip C(N(k), N(k - 1)) times in a row
+module _ (κs κt : Lfts 3) (a : Dens κs run.ps) (b : Dens κt run.ps) (x y : Ran) (s : AtExit (endedOf 3 run.ps run.r) κs) (t : AtExit (endedOf 3 run.ps run.r) κt)
+    (h : run-reads.Post κs a x s) (k : run-reads.Post κt b y t) (z : x .refusal .no ≡ 0) (w : y .refusal .no ≡ 0) where
+  pub bars-together : b .1 .1 .1 .0 ≡ a .1 .1 .1 .0 → book (b .0 .now) ≡ book (small (a .0 .now))
+      → a .1 .0 .now ≡ getD (turn (a .1 .1 .1 .0) (book (a .0 .now))) 0 [] → b .1 .0 .now ≡ getD (turn (b .1 .1 .1 .0) (book (b .0 .now))) 0 [] → x .ended ≡ true → y .ended ≡ true
+      → map (lifted (a .0 .now)) (stood (a .1 .0 .now) (take (2 * x .moves) (s .1 .1 .1 .1 .0 .now))) ≡ eachInARow (times (a .0 .now)) (stood (b .1 .0 .now) (take (2 * y .moves) (t .1 .1 .1 .1 .0 .now)))
+  bars-together direction same-book first first-too ended ended-too =
+      run-inside κs a x s h z first ended ∙ ap (eachInARow (times (a .0 .now))) (sym (run-shows κt b y t k w first-too ended-too ∙ rw (direction, same-book)))
+
+-- ---- runs one after the other, each lent the strip and the walker that the one before left, so that a book is gone through for which no list is long enough
+
+module _ (counts : List ℕ) (back : Bool) (κs : ℕ → Lfts 3) (a : (i : ℕ) → Dens (κs i) run.ps) (r : ℕ → Ran) (s : (i : ℕ) → AtExit (endedOf 3 run.ps run.r) (κs i))
+    (h : (i : ℕ) → run-reads.Post (κs i) (a i) (r i) (s i)) (stock : (i : ℕ) → a i .0 .now ≡ counts) (direction : (i : ℕ) → a i .1 .1 .1 .0 ≡ back)
+    (lent : (i : ℕ) → a (suc i) .1 .0 .now ≡ s i .1 .0 .now) (walker-lent : (i : ℕ) → a (suc i) .1 .1 .0 ≡ r i .walker) (accepted : r 0 .refusal .no ≡ 0) where
+  abbrev strips : ℕ → List ℕ
+  strips i = a i .1 .0 .now
+
+  abbrev walkers : ℕ → Walker
+  walkers i = a i .1 .1 .0
+
+  abbrev lent-lists : ℕ → List ℕ
+  lent-lists i = a i .1 .1 .1 .1 .0 .now
+
+  abbrev lists : ℕ → List ℕ
+  lists i = s i .1 .1 .1 .1 .0 .now
+
+  each : (i : ℕ) → RunRight back counts (strips i) (walkers i) (lent-lists i) (r i) (strips (suc i)) (lists i)
+  each i = rw (stock i, direction i, ← lent i) at (run-right (κs i) (a i) (r i) (s i) (h i))
+
+  led-by : (n : ℕ) → Led back counts (strips 0) (allListed r lists n) (movesBy r n) (strips n)
+  led-by = runs.led-all back counts strips walkers lent-lists r lists each walker-lent accepted
+
+  none-refused : (i : ℕ) → r i .refusal .no ≡ 0
+  none-refused = runs.none-refused back counts strips walkers lent-lists r lists each walker-lent accepted
+
+  -- with room for a move in each list, one of them says yes
+  pub runs-end : ((i : ℕ) → 2 ≤ length (lent-lists i)) → (n : ℕ) × (r n .ended ≡ true)
+  runs-end = runs.one-ends back counts strips walkers lent-lists r lists each walker-lent accepted
+
+  -- from the first strip on, or from the last back, to the run that says yes
+  module _ (first : strips 0 ≡ getD (turn back (book counts)) 0 []) (n : ℕ) (ended : r n .ended ≡ true) where
+    abbrev shown : List (List ℕ)
+    shown = stood (strips 0) (allListed r lists (suc n))
+
+    pub runs-show : shown ≡ turn back (book counts)
+    runs-show = led-whole back counts (strips 0) (each 0 .accepts accepted .1) _ _ (strips (suc n)) (led-by (suc n)) first (eqb-true _ _ (sym (each n .says (none-refused n)) ∙ ended))
+
+    pub runs-inside : map (lifted counts) shown ≡ smallBook back counts
+    runs-inside = ap (map (lifted counts)) runs-show ∙ small-inside counts (each 0 .accepts accepted .0 .some) back

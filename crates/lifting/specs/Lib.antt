@@ -1,0 +1,2 @@
+-- TO BE BELIEVED: the book with the highest kind lifted out.
+pub mod Lifting
