@@ -72,7 +72,7 @@ module _ (counts : List ℕ) where
     pub all-none-missing : different l (book counts) ≡ total counts → missing l (book counts) ≡ total counts
     all-none-missing e = all-pass-none-fails (isAmong l) (book counts) (e ∙ sym (book-size counts)) ∙ book-size counts
 
-  -- none is where all of them stand
+  -- no strip of the book is missing where all of them stand
   pub book-not-missing : missing (book counts) (book counts) ≡ total counts
   book-not-missing =
       let here : (k : ℕ) → k < length (book counts) → isAmong (book counts) (strip k) ≡ true = λ k l. some-hit (λ t. same t (strip k)) (book counts) k l (same-self (strip k)) in

@@ -19,13 +19,13 @@ use Rattle.bar.proofs.Listed.{Replays, replays}
 use Rattle.bar.proofs.Different.{book-not-missing, none-missing-all}
 
 -- counted from the end of n numbers at which a direction begins
-from-end : (d : Bool) (n i : ℕ) → i < n → (shifted d (face d n 0) i ≡ face d n i) × (ahead d n (face d n 0) + 1 ≡ n)
+face-further : (d : Bool) (n i : ℕ) → i < n → (shifted d (face d n 0) i ≡ face d n i) × (ahead d n (face d n 0) + 1 ≡ n)
 unfolding face
-from-end false n i l = (omega arith, omega arith)
-from-end true n i l = (omega arith, omega arith)
+face-further false n i l = (omega arith, omega arith)
+face-further true n i l = (omega arith, omega arith)
 
 -- from the strip that the book has first in the direction
-module _ (d : Bool) (counts s : List ℕ) (h : IsStrip counts s) (first : s ≡ getD (turn d (book counts)) 0 []) where
+module _ (d : Bool) (counts s : List ℕ) (first : s ≡ getD (turn d (book counts)) 0 []) where
   first-number : placeIn (book counts) s ≡ face d (total counts) 0
   first-number =
       let some : 0 < total counts = total-some counts in
@@ -33,11 +33,11 @@ module _ (d : Bool) (counts s : List ℕ) (h : IsStrip counts s) (first : s ≡ 
 
   pub all-left : leftAlong d counts s + 1 ≡ total counts
   unfolding leftAlong
-  all-left = rw first-number (from-end d (total counts) 0 (total-some counts) .1)
+  all-left = rw first-number (face-further d (total counts) 0 (total-some counts) .1)
 
   along-turned : (i : ℕ) → i < total counts → along d counts s i ≡ getD (turn d (book counts)) i []
   unfolding along
-  along-turned i l = rw (first-number, from-end d (total counts) i l .0) (sym (getD-turn (listed counts) d i l))
+  along-turned i l = rw (first-number, face-further d (total counts) i l .0) (sym (getD-turn (listed counts) d i l))
 
 -- what stands while runs lead on
 module _ (d : Bool) (counts s : List ℕ) (h : IsStrip counts s) (moves : List ℕ) (m : ℕ) (t : List ℕ) (v : Led d counts s moves m t) where
@@ -49,13 +49,13 @@ module _ (d : Bool) (counts s : List ℕ) (h : IsStrip counts s) (moves : List �
 
   module _ (first : s ≡ getD (turn d (book counts)) 0 []) where
     pub led-turned : (i : ℕ) → i ≤ m → getD (stood s moves) i [] ≡ getD (turn d (book counts)) i []
-    led-turned i l = led-stands i l ∙ along-turned d counts s h first i (omega (arith, v .within, all-left d counts s h first))
+    led-turned i l = led-stands i l ∙ along-turned d counts s first i (omega (arith, v .within, all-left d counts s first))
 
     -- where nothing is left, the whole book
     pub led-whole : leftAlong d counts t ≡ 0 → stood s moves ≡ turn d (book counts)
     led-whole none =
         let many : length (stood s moves) ≡ m + 1 = ap (λ (l : List ℕ). length (stood s l)) (v .listed) ∙ omega (arith, shown .many) in
-        let all : m + 1 ≡ total counts = omega (arith, v .within, led-left d counts s h moves m t v, all-left d counts s h first) in
+        let all : m + 1 ≡ total counts = omega (arith, v .within, led-left d counts s h moves m t v, all-left d counts s first) in
         ext-getD [] (stood s moves) (turn d (book counts)) (many ∙ all ∙ sym (length-turn d (book counts) ∙ book-size counts)) (λ i l. led-turned i (omega arith))
 
 -- so on from strip 0 to the last every strip stands, and none is missing

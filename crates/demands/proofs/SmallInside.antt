@@ -1,10 +1,10 @@
 -- Document 02, P14. The small stock inside the big one: with the blocks of the highest kind k off every strip, the book of the first k - 1 kinds, each strip C(N(k), N(k - 1)) times in a row. It is
 -- said over the book, and over what Run shows. A direction is true for back.
-use Prim.Native.Nat.{ℕ, suc, _+_, _*_, _/_, _≤_, _<_}
+use Prim.Native.Nat.{ℕ, suc, _+_, _*_, _/_, _≤_}
 use mathlib.Core.Path.{_≡_, sym, ap, _∙_}
-use mathlib.Core.Bool.{Bool, true, false}
+use mathlib.Core.Bool.{Bool, true, false, false≢true}
 use mathlib.Core.List.{List, [], map}
-use native.Mathlib.Decide.{decLt}
+use native.Mathlib.Decide.{ℕ-discrete, decLt}
 use native.Mathlib.Omega.{arith}
 use borrow.Author.Tests.{eqb-true, eq-eqb}
 use lib.ListN.{length, getD, take}
@@ -13,11 +13,11 @@ use borrow.Fn.Kinds.{Dens, endedOf}
 use denote.Triple.Clauses.{AtExit}
 use Rattle.rules.specs.Stock.{total, IsStrip}
 use Rattle.rules.specs.Book.{turn, book, placeIn}
-use Rattle.rules.proofs.Places.{place-below}
+use Rattle.rules.specs.SoldOut.{used}
 use Rattle.walker.specs.declared.Walker.{Walker}
 use Rattle.walking.specs.Answers.{shifted, along, leftAlong}
-use Rattle.walking.proofs.Along.{along-strip, along-place}
-use Rattle.lifting.specs.Lifting.{small, lifted, times, eachInARow, smallBook}
+use Rattle.walking.proofs.Along.{along-below}
+use Rattle.lifting.specs.Lifting.{small, lifted, times, eachInARow, smallInARow}
 use Rattle.running.specs.declared.run.Ran.{Ran}
 use Rattle.running.specs.OneAfterOther.{allListed}
 use Rattle.running.proofs.Theorems.{RunRight, run-right}
@@ -29,14 +29,14 @@ use Rattle.bar.specs.Bar.{stood}
 use Rattle.bar.proofs.EndToEnd.{led-stands, led-turned, led-whole, all-left}
 -- over the book, in either direction; how many times as long it is; and strip by strip. None of these needs the premise
 pub use Rattle.lifting.proofs.Theorems.{small-inside, total-inside, small-at}
--- the premise, two kinds and some blocks below kind k: under it the small book is that of an accepted stock
-pub use Rattle.lifting.proofs.Theorems.{small-accepted}
+-- the small stock without the sold-out kinds at its end: it has the same book, and under the premise it is accepted
+pub use Rattle.lifting.proofs.Theorems.{small-used, small-accepted}
 -- small books, computed
 pub use Rattle.lifting.proofs.Marked.{on-1-1-2, back-1-1-2, on-2-0-3, on-0-3, on-3}
 
--- ---- one run, by any outcome that is not a refusal
+-- ---- one run, by any outcome that its contract allows
 
-module _ (κs : Lfts 3) (a : Dens κs run.ps) (r : Ran) (s : AtExit (endedOf 3 run.ps run.r) κs) (h : run-reads.Post κs a r s) (z : r .refusal .no ≡ 0) where
+module _ (κs : Lfts 3) (a : Dens κs run.ps) (r : Ran) (s : AtExit (endedOf 3 run.ps run.r) κs) (h : run-reads.Post κs a r s) where
   abbrev counts : List ℕ
   counts = a .0 .now
 
@@ -47,64 +47,67 @@ module _ (κs : Lfts 3) (a : Dens κs run.ps) (r : Ran) (s : AtExit (endedOf 3 r
   back = a .1 .1 .1 .0
 
   -- the places that it listed, and the strips that stand on the bar while these are exchanged
-  abbrev moves : List ℕ
-  moves = take (2 * r .moves) (s .1 .1 .1 .1 .0 .now)
+  abbrev listed : List ℕ
+  listed = take (2 * r .moves) (s .1 .1 .1 .1 .0 .now)
 
   abbrev bar : List (List ℕ)
-  bar = stood strip moves
+  bar = stood strip listed
 
   right : RunRight back counts strip (a .1 .1 .0) (a .1 .1 .1 .1 .0 .now) r (s .1 .0 .now) (s .1 .1 .1 .1 .0 .now)
   right = run-right κs a r s h
 
-  own : IsStrip counts strip
-  own = right .accepts z .1
+  module _ (z : r .refusal .no ≡ 0) where
+    own : IsStrip counts strip
+    own = right .accepts z .1
 
-  some : 1 ≤ length counts
-  some = right .accepts z .0 .some
+    some : 1 ≤ length counts
+    some = right .accepts z .0 .some
 
-  led : Led back counts strip moves (r .moves) (s .1 .0 .now)
-  led = led-once back counts strip (a .1 .1 .0) (a .1 .1 .1 .1 .0 .now) r (s .1 .0 .now) (s .1 .1 .1 .1 .0 .now) right z
+    led : Led back counts strip listed (r .moves) (s .1 .0 .now)
+    led = led-once back counts strip (a .1 .1 .0) (a .1 .1 .1 .1 .0 .now) r (s .1 .0 .now) (s .1 .1 .1 .1 .0 .now) right z
 
-  -- from any strip: after i moves, without kind k, the small book's strip at the big one's number divided by C(N(k), N(k - 1))
-  pub small-number : (i : ℕ) → i ≤ r .moves → lifted counts (getD bar i []) ≡ getD (book (small counts)) (shifted back (placeIn (book counts) strip) i / times counts) []
-  unfolding along turn
-  small-number i l =
-      let few : i ≤ leftAlong back counts strip = omega (arith, led .within) in
-      let below : shifted back (placeIn (book counts) strip) i < total counts = rw (along-place back counts strip own i few) at (place-below counts (along back counts strip i) (along-strip back counts strip own i few)) in
-      ap (lifted counts) (led-stands back counts strip own moves (r .moves) (s .1 .0 .now) led i l) ∙ small-at counts some false (shifted back (placeIn (book counts) strip) i) below
+    -- from any strip: after i moves, without kind k, the small book's strip at the big one's number divided by C(N(k), N(k - 1))
+    pub small-after : (i : ℕ) → i ≤ r .moves → lifted counts (getD bar i []) ≡ getD (book (small counts)) (shifted back (placeIn (book counts) strip) i / times counts) []
+    unfolding along turn
+    small-after i l =
+        ap (lifted counts) (led-stands back counts strip own listed (r .moves) (s .1 .0 .now) led i l)
+        ∙ small-at counts some false (shifted back (placeIn (book counts) strip) i) (along-below back counts strip own i (omega (arith, led .within)))
 
-  -- from the first strip on, or from the last back
-  module _ (first : strip ≡ getD (turn back (book counts)) 0 []) where
-    -- after each C(N(k), N(k - 1)) moves the small bar moves once: after i moves it has made i / C(N(k), N(k - 1))
-    pub small-bar : (i : ℕ) → i ≤ r .moves → lifted counts (getD bar i []) ≡ getD (turn back (book (small counts))) (i / times counts) []
-    small-bar i l =
-        ap (lifted counts) (led-turned back counts strip own moves (r .moves) (s .1 .0 .now) led first i l)
-        ∙ small-at counts some back i (omega (arith, led .within, all-left back counts strip own first))
+    -- from the first strip on, or from the last back
+    module _ (first : strip ≡ getD (turn back (book counts)) 0 []) where
+      -- after each C(N(k), N(k - 1)) moves the small bar moves once: after i moves it has made i / C(N(k), N(k - 1))
+      pub small-bar : (i : ℕ) → i ≤ r .moves → lifted counts (getD bar i []) ≡ getD (turn back (book (small counts))) (i / times counts) []
+      small-bar i l =
+          ap (lifted counts) (led-turned back counts strip own listed (r .moves) (s .1 .0 .now) led first i l)
+          ∙ small-at counts some back i (omega (arith, led .within, all-left back counts strip first))
 
-    -- with room for T - 1 moves it says yes
-    pub run-ends : total counts ≤ length (a .1 .1 .1 .1 .0 .now) / 2 + 1 → r .ended ≡ true
-    run-ends room = elim (decLt (r .moves) (length (a .1 .1 .1 .1 .0 .now) / 2)) [
-      | yes l ↦ right .used z l
-      | no l ↦ right .says z ∙ eq-eqb (leftAlong back counts (s .1 .0 .now)) 0 (omega (arith, led-left back counts strip own moves (r .moves) (s .1 .0 .now) led, all-left back counts strip own first))
-    ]
+      -- with room for T - 1 moves it says yes
+      pub run-ends : total counts ≤ length (a .1 .1 .1 .1 .0 .now) / 2 + 1 → r .ended ≡ true
+      run-ends room = elim (decLt (r .moves) (length (a .1 .1 .1 .1 .0 .now) / 2)) [
+        | yes l ↦ right .used z l
+        | no l ↦ right .says z ∙ eq-eqb (leftAlong back counts (s .1 .0 .now)) 0 (omega (arith, led-left back counts strip own listed (r .moves) (s .1 .0 .now) led, all-left back counts strip first))
+      ]
 
-    -- and then it has shown the book in its direction, and without kind k the small book, each strip C(N(k), N(k - 1)) times in a row
-    module _ (ended : r .ended ≡ true) where
-      pub run-shows : bar ≡ turn back (book counts)
-      run-shows = led-whole back counts strip own moves (r .moves) (s .1 .0 .now) led first (eqb-true _ _ (sym (right .says z) ∙ ended))
+  -- from one end of the book to the other, where it says yes: the book in its direction, and without kind k the small book, each strip C(N(k), N(k - 1)) times in a row
+  module _ (first : strip ≡ getD (turn back (book counts)) 0 []) (ended : r .ended ≡ true) where
+    accepted : r .refusal .no ≡ 0
+    accepted = elim (ℕ-discrete (r .refusal .no) 0) [ yes z ↦ z | no z ↦ absurd (false≢true (sym (right .refused z .1) ∙ ended)) ]
 
-      pub run-inside : map (lifted counts) bar ≡ smallBook back counts
-      run-inside = ap (map (lifted counts)) run-shows ∙ small-inside counts some back
+    pub run-shows : bar ≡ turn back (book counts)
+    run-shows = led-whole back counts strip (own accepted) listed (r .moves) (s .1 .0 .now) (led accepted) first (eqb-true _ _ (sym (right .says accepted) ∙ ended))
 
--- two bars beside each other, the second with a stock that has the small book, as `small-accepted` names one: run end to end in one direction, the big one shows without kind k what the small one
--- shows, each strip C(N(k), N(k - 1)) times in a row
+    pub run-inside : map (lifted counts) bar ≡ smallInARow back counts
+    run-inside = ap (map (lifted counts)) run-shows ∙ small-inside counts (some accepted) back
+
+-- two bars beside each other, the second with the small stock without the sold-out kinds at its end, run from one end of the book to the other in one direction: the big one shows without kind k what
+-- the small one shows, each strip C(N(k), N(k - 1)) times in a row
 module _ (κs κt : Lfts 3) (a : Dens κs run.ps) (b : Dens κt run.ps) (x y : Ran) (s : AtExit (endedOf 3 run.ps run.r) κs) (t : AtExit (endedOf 3 run.ps run.r) κt)
-    (h : run-reads.Post κs a x s) (k : run-reads.Post κt b y t) (z : x .refusal .no ≡ 0) (w : y .refusal .no ≡ 0) where
-  pub bars-together : b .1 .1 .1 .0 ≡ a .1 .1 .1 .0 → book (b .0 .now) ≡ book (small (a .0 .now))
-      → a .1 .0 .now ≡ getD (turn (a .1 .1 .1 .0) (book (a .0 .now))) 0 [] → b .1 .0 .now ≡ getD (turn (b .1 .1 .1 .0) (book (b .0 .now))) 0 [] → x .ended ≡ true → y .ended ≡ true
+    (h : run-reads.Post κs a x s) (k : run-reads.Post κt b y t) (stock : b .0 .now ≡ used (small (a .0 .now))) (direction : b .1 .1 .1 .0 ≡ a .1 .1 .1 .0) where
+  pub bars-together : a .1 .0 .now ≡ getD (turn (a .1 .1 .1 .0) (book (a .0 .now))) 0 [] → b .1 .0 .now ≡ getD (turn (b .1 .1 .1 .0) (book (b .0 .now))) 0 [] → x .ended ≡ true → y .ended ≡ true
       → map (lifted (a .0 .now)) (stood (a .1 .0 .now) (take (2 * x .moves) (s .1 .1 .1 .1 .0 .now))) ≡ eachInARow (times (a .0 .now)) (stood (b .1 .0 .now) (take (2 * y .moves) (t .1 .1 .1 .1 .0 .now)))
-  bars-together direction same-book first first-too ended ended-too =
-      run-inside κs a x s h z first ended ∙ ap (eachInARow (times (a .0 .now))) (sym (run-shows κt b y t k w first-too ended-too ∙ rw (direction, same-book)))
+  bars-together first first-too ended ended-too =
+      let same-book : book (b .0 .now) ≡ book (small (a .0 .now)) = ap book stock ∙ small-used (a .0 .now) in
+      run-inside κs a x s h first ended ∙ ap (eachInARow (times (a .0 .now))) (sym (run-shows κt b y t k first-too ended-too ∙ rw (direction, same-book)))
 
 -- ---- runs one after the other, each lent the strip and the walker that the one before left, so that a book is gone through for which no list is long enough
 
@@ -144,5 +147,5 @@ module _ (counts : List ℕ) (back : Bool) (κs : ℕ → Lfts 3) (a : (i : ℕ)
     pub runs-show : shown ≡ turn back (book counts)
     runs-show = led-whole back counts (strips 0) (each 0 .accepts accepted .1) _ _ (strips (suc n)) (led-by (suc n)) first (eqb-true _ _ (sym (each n .says (none-refused n)) ∙ ended))
 
-    pub runs-inside : map (lifted counts) shown ≡ smallBook back counts
+    pub runs-inside : map (lifted counts) shown ≡ smallInARow back counts
     runs-inside = ap (map (lifted counts)) runs-show ∙ small-inside counts (each 0 .accepts accepted .0 .some) back

@@ -1,6 +1,6 @@
 -- Proofs. The book of one kind more, with that kind taken off: each strip of the book before, as often as the kind has patterns.
 use Prim.Native.Nat.{ℕ, suc, _+_}
-use mathlib.Core.Path.{_≡_, refl, sym, ap, _∙_}
+use mathlib.Core.Path.{_≡_, sym, ap, _∙_}
 use mathlib.Core.Bool.{false}
 use mathlib.Core.List.{List, [], _∷_, _++_, map, map-map, reverse}
 use native.Mathlib.Omega.{arith}
@@ -8,7 +8,7 @@ use lib.ListN.{length, getD, replicate, length-reverse}
 use Rattle.rules.specs.Stock.{sum, binom, IsStrip}
 use Rattle.rules.specs.Book.{Word, E, lay, snake, book, reduced}
 use Rattle.rules.proofs.Turned.{sum-reverse}
-use Rattle.rules.proofs.Listed.{map-agree}
+use Rattle.rules.proofs.Listed.{map-agree, map-always}
 use Rattle.rules.proofs.Snake.{map-snake}
 use Rattle.rules.proofs.Patterns.{IsWord, listed-E}
 use Rattle.rules.proofs.Books.{without, strip-below, laid-without, laid-strip}
@@ -17,10 +17,6 @@ use Rattle.rules.proofs.Reduced.{reduced-without, reduced-all}
 use Rattle.rules.proofs.Places.{book-size, book-only}
 use Rattle.lifting.specs.Lifting.{eachInARow}
 use Rattle.lifting.proofs.Rows.{row-snake}
-
-map-always : (w : List ℕ) (l : List Word) → map (λ p. w) l ≡ replicate (length l) w
-map-always w [] = refl
-map-always w (p ∷ l) = rw (map-always w l)
 
 -- kind k has c blocks, and the kinds before it are those of `below`
 module _ (below : List ℕ) (c : ℕ) where

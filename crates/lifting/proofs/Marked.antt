@@ -5,13 +5,13 @@ use mathlib.Core.List.{[], _∷_, _++_, map}
 use lib.ListN.{replicate}
 use Rattle.rules.specs.Stock.{binom, sum}
 use Rattle.rules.specs.Book.{turn, book, reduced}
-use Rattle.lifting.specs.Lifting.{small, lifted, smallBook, eachInARow}
+use Rattle.lifting.specs.Lifting.{small, lifted, smallInARow, eachInARow}
 
-pub on-1-1-2 : (map (lifted (1 ∷ 1 ∷ 2 ∷ [])) (turn false (book (1 ∷ 1 ∷ 2 ∷ []))) ≡ replicate 6 (1 ∷ 2 ∷ []) ++ replicate 6 (2 ∷ 1 ∷ [])) × (smallBook false (1 ∷ 1 ∷ 2 ∷ []) ≡ replicate 6 (1 ∷ 2 ∷ []) ++ replicate 6 (2 ∷ 1 ∷ []))
+pub on-1-1-2 : (map (lifted (1 ∷ 1 ∷ 2 ∷ [])) (turn false (book (1 ∷ 1 ∷ 2 ∷ []))) ≡ replicate 6 (1 ∷ 2 ∷ []) ++ replicate 6 (2 ∷ 1 ∷ [])) × (smallInARow false (1 ∷ 1 ∷ 2 ∷ []) ≡ replicate 6 (1 ∷ 2 ∷ []) ++ replicate 6 (2 ∷ 1 ∷ []))
 unfolding book turn reduced binom sum eachInARow
 on-1-1-2 = (refl, refl)
 
-pub back-1-1-2 : (map (lifted (1 ∷ 1 ∷ 2 ∷ [])) (turn true (book (1 ∷ 1 ∷ 2 ∷ []))) ≡ replicate 6 (2 ∷ 1 ∷ []) ++ replicate 6 (1 ∷ 2 ∷ [])) × (smallBook true (1 ∷ 1 ∷ 2 ∷ []) ≡ replicate 6 (2 ∷ 1 ∷ []) ++ replicate 6 (1 ∷ 2 ∷ []))
+pub back-1-1-2 : (map (lifted (1 ∷ 1 ∷ 2 ∷ [])) (turn true (book (1 ∷ 1 ∷ 2 ∷ []))) ≡ replicate 6 (2 ∷ 1 ∷ []) ++ replicate 6 (1 ∷ 2 ∷ [])) × (smallInARow true (1 ∷ 1 ∷ 2 ∷ []) ≡ replicate 6 (2 ∷ 1 ∷ []) ++ replicate 6 (1 ∷ 2 ∷ []))
 unfolding book turn reduced binom sum eachInARow
 back-1-1-2 = (refl, refl)
 

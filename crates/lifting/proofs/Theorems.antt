@@ -8,15 +8,16 @@ use lib.ListN.{length, getD}
 use lib.Seq.{take-length, length-take-le}
 use Rattle.rules.specs.Stock.{sum, N, binom, total, IsStock}
 use Rattle.rules.specs.Book.{turn, book}
+use Rattle.rules.specs.SoldOut.{used}
 use Rattle.rules.proofs.Last.{split-last}
 use Rattle.rules.proofs.Turned.{sum-next}
 use Rattle.rules.proofs.Listed.{getD-map′, length-turn, map-turn}
 use Rattle.rules.proofs.Places.{book-size}
-use Rattle.rules.proofs.Prefixes.{total-next}
-use Rattle.lifting.specs.Lifting.{small, lifted, times, eachInARow, smallBook}
+use Rattle.rules.proofs.Prefixes.{sum-take, total-next}
+use Rattle.rules.proofs.Used.{used-book, used-stock}
+use Rattle.lifting.specs.Lifting.{small, lifted, times, eachInARow, smallInARow}
 use Rattle.lifting.proofs.Rows.{row-turn, row-at}
 use Rattle.lifting.proofs.Lifted.{lifted-book}
-use Rattle.lifting.proofs.Stocks.{SameBook, some-below}
 
 module _ (counts : List ℕ) (some : 1 ≤ length counts) where
   abbrev j : ℕ
@@ -35,7 +36,7 @@ module _ (counts : List ℕ) (some : 1 ≤ length counts) where
   on = rw times-is (ap (λ (l : List ℕ). map (lifted counts) (book l)) (split-last counts some) ∙ (rw (length-take-le j counts (omega arith)) at (lifted-book (small counts) last)))
 
   -- with the highest kind off every strip of the book, on or back, what remains is the book of the kinds before it in the same direction, each strip C(N(k), N(k - 1)) times in a row
-  pub small-inside : (back : Bool) → map (lifted counts) (turn back (book counts)) ≡ smallBook back counts
+  pub small-inside : (back : Bool) → map (lifted counts) (turn back (book counts)) ≡ smallInARow back counts
   small-inside back = map-turn (lifted counts) back (book counts) ∙ ap (turn back) on ∙ row-turn (times counts) back (book (small counts))
 
   -- so the big book is so many times as long
@@ -49,7 +50,12 @@ module _ (counts : List ℕ) (some : 1 ≤ length counts) where
       let m : i < length (turn back (book (small counts))) * times counts = rw (length-turn back (book (small counts)), book-size (small counts), ← total-inside) l in
       sym (getD-map′ (lifted counts) (turn back (book counts)) i [] [] b) ∙ ap (λ (r : List (List ℕ)). getD r i []) (small-inside back) ∙ row-at (times counts) (turn back (book (small counts))) i m
 
--- The premise of the document: two kinds, and some blocks below the highest. Under it the small book is the book of an accepted stock. What is shown above holds without it too: where no blocks are
--- below kind k, both sides have the one strip of no blocks.
-pub small-accepted : (counts : List ℕ) → IsStock counts → 2 ≤ length counts → 1 ≤ N counts (length counts - 1) → SameBook counts (length counts - 1)
-small-accepted counts stock two below = some-below counts stock (length counts - 1) (omega arith) below
+-- the small stock without the sold-out kinds at its end has the same book
+pub small-used : (counts : List ℕ) → book (used (small counts)) ≡ book (small counts)
+small-used counts = used-book (small counts)
+
+-- and under the document's premise it is accepted: some blocks are below kind k, and so at least two kinds are there
+pub small-accepted : (counts : List ℕ) → IsStock counts → 1 ≤ N counts (length counts - 1) → IsStock (used (small counts))
+small-accepted counts stock below =
+    let j = length counts - 1 in
+    used-stock (small counts) (omega (arith, length-take-le j counts (omega arith), stock .few)) below (omega (arith, sum-take counts j, stock .short))

@@ -24,5 +24,5 @@ eachInARow n [] = []
 eachInARow n (s ∷ l) = replicate n s ++ eachInARow n l
 
 -- the book of the first k - 1 kinds, on or back, each strip C(N(k), N(k - 1)) times in a row
-abbrev pub smallBook : Bool → List ℕ → List (List ℕ)
-smallBook back counts = eachInARow (times counts) (turn back (book (small counts)))
+abbrev pub smallInARow : Bool → List ℕ → List (List ℕ)
+smallInARow back counts = eachInARow (times counts) (turn back (book (small counts)))

@@ -1,17 +1,16 @@
 -- Proofs. Lists with zeros after them: what is used of one is the list before the zeros, and each list of bytes is what is used of it with zeros after.
-use Prim.Native.Nat.{ℕ, zero, suc, _-_, _≤_, _<_}
-use mathlib.Core.Path.{_≡_, refl, sym, ap, _∙_}
+use Prim.Native.Nat.{ℕ, zero, suc, _-_, _≤_}
+use mathlib.Core.Path.{_≡_, refl, ap, _∙_}
 use mathlib.Core.Bool.{true}
 use mathlib.Core.List.{List, [], _∷_, _++_}
-use native.Mathlib.Decide.{ℕ-discrete}
 use native.Mathlib.Omega.{arith}
 use lib.ListN.{length, take, drop, replicate, length-replicate, length-take, length-drop, take-append-drop}
 use lib.Seq.{take-at, drop-at}
 use Rattle.rules.specs.Stock.{lastCount}
-use Rattle.rules.proofs.Last.{split-last, last-added, from-end}
+use Rattle.rules.specs.SoldOut.{untilLast, used}
 use Rattle.rules.proofs.Places.{same-self, same-true}
-use Rattle.records.specs.Records.{untilLast, used}
-use Rattle.records.proofs.BodyLaws.{used-zero, used-last, zeros}
+use Rattle.rules.proofs.Used.{used-all}
+use Rattle.records.proofs.BodyLaws.{zeros}
 use Rattle.sheets.specs.Sheets.{padded}
 
 -- ---- counts
@@ -22,27 +21,9 @@ used-zeros [] zero = refl
 used-zeros [] (suc k) = ap (untilLast 0) (used-zeros [] k)
 used-zeros (x ∷ l) k = ap (untilLast x) (used-zeros l k)
 
--- a list whose last count is not 0
-used-all : (l : List ℕ) → 1 ≤ lastCount l → used l ≡ l
-used-all [] h = absurd (omega arith)
-used-all (x ∷ l) h =
-    let e = split-last (x ∷ l) (omega arith) in
-    ap used e ∙ used-last (take (length (x ∷ l) - 1) (x ∷ l)) (lastCount (x ∷ l)) (omega arith) ∙ sym e
-
 pub used-padded : (n : ℕ) (l : List ℕ) → 1 ≤ lastCount l → used (padded n l) ≡ l
 unfolding padded
 used-padded n l h = used-zeros l (n - length l) ∙ used-all l h
-
--- what is used of counts ends in one that is not 0
-pub used-ends : (l : List ℕ) → 0 < length (used l) → 1 ≤ lastCount (used l)
-unfolding used
-used-ends = from-end (λ l. 0 < length (used l) → 1 ≤ lastCount (used l)) (λ h. absurd (omega arith)) next
-  where
-    next : (l : List ℕ) (x : ℕ) → (0 < length (used l) → 1 ≤ lastCount (used l)) → 0 < length (used (l ++ (x ∷ []))) → 1 ≤ lastCount (used (l ++ (x ∷ [])))
-    next l x before = elim (ℕ-discrete x 0) [
-      | yes e ↦ rw (e, used-zero l) before
-      | no e ↦ rw (used-last l x e) (λ h. omega (arith, last-added l x))
-    ]
 
 pub padded-used : (l : List ℕ) → padded (length l) (used l) ≡ l
 unfolding padded used

@@ -10,14 +10,15 @@ use lib.ListN.{length, getD, take, drop, replicate, take-append-drop}
 use Rattle.rules.specs.Stock.{sum, lastCount, IsStock}
 use Rattle.rules.specs.Book.{same}
 use Rattle.rules.specs.Refusals.{No, when, atPlace, firstOf, smallest, isStranger, isMiscounted, zeroNo, stockNos}
+use Rattle.rules.specs.SoldOut.{used}
 use Rattle.rules.proofs.Refusals.{first-passed, refused-first, passed-first, at-place, end-is, row-is, both-is, when-is, stock-is, stranger-is, amount-is}
 use Rattle.rules.proofs.Checks.{accepted-back}
 use Rattle.rules.proofs.SoldOut.{sold-out-miscounted}
-use Rattle.records.specs.Records.{used, sheetStock, stripBody, sheetStrip, recordNo, paddingNo, firstTwoNos}
+use Rattle.rules.proofs.Used.{used-ends}
+use Rattle.records.specs.Records.{sheetStock, stripBody, sheetStrip, recordNo, paddingNo, firstTwoNos}
 use Rattle.records.proofs.BodyLaws.{record-there}
 use Rattle.following.proofs.Steps.{follow-is}
 use Rattle.reading.specs.Reading.{followed, recordNos, readNos}
-use Rattle.reading.proofs.Padding.{used-ends}
 
 -- ---- 2
 

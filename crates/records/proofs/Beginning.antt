@@ -6,13 +6,13 @@ use native.Mathlib.Omega.{arith}
 use lib.ListN.{length, take, drop, replicate, length-take, length-drop}
 use Rattle.rules.specs.Stock.{sum, IsStock, IsStrip}
 use Rattle.rules.specs.Refusals.{firstOf}
+use Rattle.rules.specs.SoldOut.{used}
 use Rattle.rules.proofs.Refusals.{passed-both}
 use Rattle.rules.proofs.Checks.{passed-head}
 use Rattle.stock.specs.declared.Refusal.{Refusal}
 use Rattle.stock.specs.Refused.{refusal}
 use Rattle.stock.proofs.Tested.{passed, stopped-first, passed-next}
 use Rattle.records.specs.declared.opening.Opening.{Opening}
-use Rattle.records.specs.Records.{used}
 use Rattle.records.specs.Opened.{stockAt, stripAt, stockAtNos, stripAtNos, openingNos, Opened, Ready}
 use Rattle.records.proofs.BodyLaws.{used-fits}
 use Rattle.records.proofs.Checking.{record-fits, counts-held, stock-accepted, strip-accepted}

@@ -10,7 +10,9 @@ use lib.ListN.{length, getD, take, drop, set, replicate, length-take, drop-of-le
 use lib.Seq.{drop-cons, take-suc, length-take-le}
 use Rattle.rules.specs.Book.{same}
 use Rattle.rules.specs.Refusals.{fine}
-use Rattle.records.specs.Records.{untilLast, used, recordNo}
+use Rattle.rules.specs.SoldOut.{used}
+use Rattle.rules.proofs.Used.{used-zero, used-last, used-within}
+use Rattle.records.specs.Records.{recordNo}
 
 -- ---- a record at a byte
 
@@ -34,43 +36,10 @@ module _ (kind body at : ℕ) (sheet : List ℕ) where
 
 -- ---- the counts to the last one that is not 0
 
-module _ (x : ℕ) (some : x ≡ 0 → ⊥) where
-  until-one : untilLast x [] ≡ x ∷ []
-  until-one = go x some
-    where
-      go : (x : ℕ) → (x ≡ 0 → ⊥) → untilLast x [] ≡ x ∷ []
-      go zero h = absurd (h refl)
-      go (suc x) h = refl
-
-until-more : (y x : ℕ) (l : List ℕ) → untilLast y (l ++ (x ∷ [])) ≡ y ∷ (l ++ (x ∷ []))
-until-more zero x [] = refl
-until-more zero x (z ∷ l) = refl
-until-more (suc y) x l = refl
-
-pub used-zero : (l : List ℕ) → used (l ++ (0 ∷ [])) ≡ used l
-unfolding used
-used-zero [] = refl
-used-zero (x ∷ l) = ap (untilLast x) (used-zero l)
-
-pub used-last : (l : List ℕ) (x : ℕ) → (x ≡ 0 → ⊥) → used (l ++ (x ∷ [])) ≡ l ++ (x ∷ [])
-unfolding used
-used-last [] x h = until-one x h
-used-last (y ∷ l) x h = ap (untilLast y) (used-last l x h) ∙ until-more y x l
-
-pub used-prefix : (l : List ℕ) → take (length (used l)) l ≡ used l
-unfolding used
-used-prefix [] = refl
-used-prefix (x ∷ l) = go x (used l) (used-prefix l)
-  where
-    go : (x : ℕ) (u : List ℕ) → take (length u) l ≡ u → take (length (untilLast x u)) (x ∷ l) ≡ untilLast x u
-    go zero [] e = refl
-    go zero (y ∷ u) e = ap (λ (r : List ℕ). zero ∷ r) e
-    go (suc x) u e = ap (λ (r : List ℕ). suc x ∷ r) e
-
 -- as many kinds as are used, of the counts
 module _ (l : List ℕ) (kinds : ℕ) (is : kinds ≡ length (used l)) where
   pub used-fits : kinds ≤ length l
-  used-fits = omega (arith, ap length (used-prefix l), length-take (length (used l)) l)
+  used-fits = omega (arith, used-within l)
 
   pub used-long : kinds ≡ length (take kinds l)
   used-long = sym (length-take-le kinds l used-fits)

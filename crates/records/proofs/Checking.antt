@@ -10,15 +10,17 @@ use lib.ListN.{length, getD, take, drop, length-take, length-drop}
 use lib.Seq.{take-take, drop-drop}
 use Rattle.rules.specs.Stock.{sum, IsStock, IsStrip}
 use Rattle.rules.specs.Refusals.{No, whenAt, firstOf, strangerNo, amountNo, stripNos}
+use Rattle.rules.specs.SoldOut.{used}
 use Rattle.rules.proofs.Last.{drop-take}
 use Rattle.rules.proofs.Refusals.{passed-fine, passed-both}
+use Rattle.rules.proofs.Used.{used-prefix}
 use Rattle.rules.proofs.Checks.{length-right, passed-head, accepted, accepted-strip}
 use Rattle.stock.specs.declared.Refusal.{Refusal}
 use Rattle.stock.specs.Refused.{refusal}
 use Rattle.stock.proofs.Tested.{passed, stopped-first, passed-next}
-use Rattle.records.specs.Records.{used, recordNo}
+use Rattle.records.specs.Records.{recordNo}
 use Rattle.records.specs.Opened.{stockAt, stripAt, restAt, stockAtNos, stripAtNos}
-use Rattle.records.proofs.BodyLaws.{zeros, used-prefix, record-short}
+use Rattle.records.proofs.BodyLaws.{zeros, record-short}
 
 -- ---- one row with a byte offset
 

@@ -7,9 +7,10 @@ use lib.ListN.{length, take, drop, replicate}
 use Rattle.rules.specs.Stock.{sum, IsStock, IsStrip}
 use Rattle.rules.specs.Book.{same}
 use Rattle.rules.specs.Refusals.{No, whenAt, firstOf, strangerNo, amountNo, stockNos}
+use Rattle.rules.specs.SoldOut.{used}
 use Rattle.stock.specs.Refused.{refusal}
 use Rattle.records.specs.declared.opening.Opening.{Opening}
-use Rattle.records.specs.Records.{used, recordNo}
+use Rattle.records.specs.Records.{recordNo}
 
 -- the stock of the record at a byte, and the strip of one for these counts
 unfoldable pub stockAt : ℕ → List ℕ → List ℕ

@@ -1,5 +1,5 @@
 -- TO BE BELIEVED. The records of a sheet before the moves: which stock and which strip they hold, and the refusals of a record.
-use Prim.Native.Nat.{ℕ, zero, suc, _+_}
+use Prim.Native.Nat.{ℕ, _+_}
 use mathlib.Core.Bool.{not, _||_}
 use mathlib.Core.List.{List, [], _∷_, _++_}
 use lib.Dec.{eqb, ltb}
@@ -7,18 +7,9 @@ use lib.ListN.{length, getD, take, drop, replicate}
 use Rattle.rules.specs.Stock.{sum}
 use Rattle.rules.specs.Book.{same}
 use Rattle.rules.specs.Refusals.{No, whenAt, strangerNo, amountNo, stockNos}
+use Rattle.rules.specs.SoldOut.{used}
 
 -- ---- the stock and the strip of a sheet
-
-abbrev pub untilLast : ℕ → List ℕ → List ℕ
-untilLast zero [] = []
-untilLast zero (y ∷ l) = zero ∷ y ∷ l
-untilLast (suc x) l = suc x ∷ l
-
--- counts to the last one that is not 0
-unfoldable pub used : List ℕ → List ℕ
-used [] = []
-used (x ∷ l) = untilLast x (used l)
 
 unfoldable pub sheetStock : List ℕ → List ℕ
 sheetStock sheet = used (take 16 (drop 1 sheet))

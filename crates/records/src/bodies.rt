@@ -5,8 +5,9 @@ ghost use mathlib.Core.Path.{_≡_};
 ghost use mathlib.Core.List.{_++_};
 ghost use lib.ListN.{length, take, drop, replicate};
 ghost use Rattle.rules.specs.Book.{same};
+ghost use Rattle.rules.specs.SoldOut.{used};
 ghost use Rattle.stock.specs.Refused.{refusal};
-ghost use Rattle.records.specs.Records.{used, recordNo};
+ghost use Rattle.records.specs.Records.{recordNo};
 
 // Refusal 11 where the record at a byte is not of this kind or its body is cut short.
 pub fn check_record(sheet: &[u8], at: usize, kind: u8, body: usize) -> Refusal

@@ -8,7 +8,7 @@ use native.Mathlib.Omega.{arith}
 use lib.Dec.{eqb}
 use borrow.Author.Tests.{eqb-true, eq-eqb, ne-eqb, lt-ltb, le-ltb, not-false}
 use lib.ListN.{length, getD, replicate, length-append, length-replicate, length-map}
-use Rattle.rules.specs.Stock.{sum, N, tally, count, total, IsStock}
+use Rattle.rules.specs.Stock.{sum, N, tally, count, total, IsStock, IsStrip}
 use Rattle.rules.specs.Book.{R, Word, E, lay, snake, book, same, placeIn}
 use Rattle.rules.specs.Refusals.{No, firstOf, smallest, isStranger, isMiscounted, stockNos, stripNos, checkNos}
 use Rattle.rules.specs.SoldOut.{oneHigher, renamed}
@@ -45,30 +45,27 @@ higher-above j kind h = rw (lt-ltb j kind h)
 renamed-below : (j : ℕ) (s : List ℕ) → ((i : ℕ) → i < length s → getD s i 0 ≤ j) → renamed j s ≡ s
 renamed-below j s h = map-agree (oneHigher j) (λ x. x) s 0 (λ i l. higher-below j (getD s i 0) (h i l)) ∙ map-id s
 
--- the sold-out kind above all others: each strip has its one pattern, which leaves it as it is
+-- the sold-out kind above all others: each strip has its one pattern, which leaves it as it is, and no kind is above it to be renamed
 module _ (below : List ℕ) where
-  one-laid : (i : ℕ) → i < length (book below) → map (lay (suc (length below)) (getD (book below) i [])) (E (0 + sum below) (sum below)) ≡ renamed (length below) (getD (book below) i []) ∷ []
+  own : (i : ℕ) → i < length (book below) → IsStrip below (getD (book below) i [])
+  own i h = book-only below i (omega (arith, book-size below))
+
+  one-laid : (i : ℕ) → i < length (book below) → map (lay (suc (length below)) (getD (book below) i [])) (E (0 + sum below) (sum below)) ≡ getD (book below) i [] ∷ []
   one-laid i h =
       let w = getD (book below) i [] in
-      let s = book-only below i (omega (arith, book-size below)) in
       let n = length-replicate (sum below) R in
-      let l = lay-all-R (suc (length below)) w (replicate (sum below) R) (strip-sum below w s ∙ sym n) (countR-Rs (sum below) ∙ sym n) in
       let z : 0 + sum below ≡ sum below = omega arith in
-      rw (z, E-all-R (sum below)) (ap (λ (s : List ℕ). s ∷ []) (l ∙ sym (renamed-below (length below) w (λ i h. s .kinds i h .1))))
+      rw (z, E-all-R (sum below)) (ap (λ (s : List ℕ). s ∷ []) (lay-all-R (suc (length below)) w (replicate (sum below) R) (strip-sum below w (own i h) ∙ sym n) (countR-Rs (sum below) ∙ sym n)))
 
-  sold-out-last : book (below ++ (0 ∷ [])) ≡ map (renamed (length below)) (book (below ++ []))
-  sold-out-last =
-      rw (append-nil below)
-      (book-rule below 0
-      ∙ ap (snake false) (map-agree _ (λ w. renamed (length below) w ∷ []) (book below) [] one-laid)
-      ∙ snake-ones (renamed (length below)) false (book below))
-
-  -- and no kind is above it to be renamed
   pub last-sold-out : book (below ++ (0 ∷ [])) ≡ book below
   last-sold-out =
-      rw (append-nil below) at sold-out-last
-      ∙ map-agree (renamed (length below)) (λ s. s) (book below) [] (λ i h. renamed-below (length below) _ (λ p l. book-only below i (omega (arith, book-size below)) .kinds p l .1))
-      ∙ map-id (book below)
+      book-rule below 0 ∙ ap (snake false) (map-agree _ (λ w. w ∷ []) (book below) [] one-laid) ∙ snake-ones (λ w. w) false (book below) ∙ map-id (book below)
+
+  renamed-none : map (renamed (length below)) (book below) ≡ book below
+  renamed-none = map-agree (renamed (length below)) (λ s. s) (book below) [] (λ i h. renamed-below (length below) (getD (book below) i []) (λ p l. own i h .kinds p l .1)) ∙ map-id (book below)
+
+  sold-out-last : book (below ++ (0 ∷ [])) ≡ map (renamed (length below)) (book (below ++ []))
+  sold-out-last = last-sold-out ∙ sym (rw (append-nil below) renamed-none)
 
 -- one kind more above them: the patterns are the same, laid as a kind called one higher
 module _ (below above : List ℕ) (c : ℕ) where

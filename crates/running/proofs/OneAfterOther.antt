@@ -1,4 +1,4 @@
--- Theorems on where runs in one direction lead and the places that they list: one run, and runs one after the other, each from the strip that the one before left.
+-- Proofs. Where runs in one direction lead and the places that they list: one run, and runs one after the other, each from the strip that the one before left.
 use Prim.Native.Nat.{ℕ, zero, suc, _+_, _*_, _/_, _-_, _≤_, _<_}
 use mathlib.Core.Path.{_≡_, refl, sym, _∙_}
 use mathlib.Core.Bool.{Bool, true}
@@ -43,7 +43,7 @@ module _ (d : Bool) (counts s : List ℕ) (w : Walker) (list₀ : List ℕ) (r :
 
 -- by moves, and by a run from where they led
 module _ (d : Bool) (counts s : List ℕ) (h : IsStrip counts s) (moves : List ℕ) (m : ℕ) (t : List ℕ) (v : Led d counts s moves m t) (more : List ℕ) (k : ℕ) (u : List ℕ) (then : Led d counts t more k u) where
-  pub led-further : Led d counts s (moves ++ more) (m + k) u
+  led-further : Led d counts s (moves ++ more) (m + k) u
   led-further = record {
     within = omega (arith, v .within, led-left d counts s h moves m t v, then .within);
     listed = rw (v .listed, then .listed, v .there) (moves-further d counts s h m (v .within) k);

@@ -50,17 +50,17 @@ module _ (d : Bool) (counts s : List ℕ) (h : IsStrip counts s) where
   along-none = rw (shifted-none d (placeIn (book counts) s)) (place-undone counts s h)
 
   module _ (i : ℕ) (l : i ≤ leftAlong d counts s) where
-    below : shifted d (placeIn (book counts) s) i < total counts
+    pub along-below : shifted d (placeIn (book counts) s) i < total counts
     unfolding leftAlong
-    below = shifted-below (total counts) (placeIn (book counts) s) i (place-below counts s h) d l
+    along-below = shifted-below (total counts) (placeIn (book counts) s) i (place-below counts s h) d l
 
     pub along-strip : IsStrip counts (along d counts s i)
     unfolding along
-    along-strip = book-only counts (shifted d (placeIn (book counts) s) i) below
+    along-strip = book-only counts (shifted d (placeIn (book counts) s) i) along-below
 
     pub along-place : placeIn (book counts) (along d counts s i) ≡ shifted d (placeIn (book counts) s) i
     unfolding along
-    along-place = book-place counts (shifted d (placeIn (book counts) s) i) below
+    along-place = book-place counts (shifted d (placeIn (book counts) s) i) along-below
 
     pub along-left : leftAlong d counts (along d counts s i) ≡ leftAlong d counts s - i
     unfolding leftAlong

@@ -5,7 +5,7 @@ use native.Mathlib.Omega.{arith}
 use lib.ListN.{length, take}
 use lib.Seq.{take-length}
 use borrow.Author.Needs.{needs}
-use Rattle.records.specs.Records.{used}
+use Rattle.rules.specs.SoldOut.{used}
 use Rattle.records.proofs.BodyLaws.{used-on, used-here}
 use Rattle.records.proofs.bodies.used_kinds.Statement.{statement}
 use Rattle.records.proofs.bodies.used_kinds.Tie as tie
