@@ -11,6 +11,7 @@ use Rattle.rules.specs.SoldOut.{used}
 
 -- ---- the stock and the strip of a sheet
 
+-- the sixteen counts of the stock record, to the last one that is not 0
 unfoldable pub sheetStock : List ℕ → List ℕ
 sheetStock sheet = used (take 16 (drop 1 sheet))
 

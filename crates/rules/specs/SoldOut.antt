@@ -12,6 +12,7 @@ oneHigher j kind = pick (ltb j kind) (suc kind) kind
 abbrev pub renamed : ℕ → List ℕ → List ℕ
 renamed j s = map (oneHigher j) s
 
+-- a count put in front of others, but no 0 in front of none
 abbrev pub untilLast : ℕ → List ℕ → List ℕ
 untilLast zero [] = []
 untilLast zero (y ∷ l) = zero ∷ y ∷ l
