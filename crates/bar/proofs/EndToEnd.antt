@@ -47,6 +47,9 @@ module _ (d : Bool) (counts s : List ℕ) (h : IsStrip counts s) (moves : List �
   pub led-stands : (i : ℕ) → i ≤ m → getD (stood s moves) i [] ≡ along d counts s i
   led-stands i l = ap (λ (l : List ℕ). getD (stood s l) i []) (v .listed) ∙ shown .stands i l
 
+  pub led-many : length (stood s moves) ≡ m + 1
+  led-many = ap (λ (l : List ℕ). length (stood s l)) (v .listed) ∙ omega (arith, shown .many)
+
   module _ (first : s ≡ getD (turn d (book counts)) 0 []) where
     pub led-turned : (i : ℕ) → i ≤ m → getD (stood s moves) i [] ≡ getD (turn d (book counts)) i []
     led-turned i l = led-stands i l ∙ along-turned d counts s first i (omega (arith, v .within, all-left d counts s first))
@@ -54,9 +57,8 @@ module _ (d : Bool) (counts s : List ℕ) (h : IsStrip counts s) (moves : List �
     -- where nothing is left, the whole book
     pub led-whole : leftAlong d counts t ≡ 0 → stood s moves ≡ turn d (book counts)
     led-whole none =
-        let many : length (stood s moves) ≡ m + 1 = ap (λ (l : List ℕ). length (stood s l)) (v .listed) ∙ omega (arith, shown .many) in
         let all : m + 1 ≡ total counts = omega (arith, v .within, led-left d counts s h moves m t v, all-left d counts s first) in
-        ext-getD [] (stood s moves) (turn d (book counts)) (many ∙ all ∙ sym (length-turn d (book counts) ∙ book-size counts)) (λ i l. led-turned i (omega arith))
+        ext-getD [] (stood s moves) (turn d (book counts)) (led-many ∙ all ∙ sym (length-turn d (book counts) ∙ book-size counts)) (λ i l. led-turned i (omega (arith, led-many)))
 
 -- so on from strip 0 to the last every strip stands, and none is missing
 module _ (counts s : List ℕ) (h : IsStrip counts s) (moves : List ℕ) (m : ℕ) (t : List ℕ) (v : Led false counts s moves m t) (first : placeIn (book counts) s ≡ 0) (last : m + 1 ≡ total counts) where

@@ -1,6 +1,6 @@
 -- Document 02, P14. The small stock inside the big one: with the blocks of the highest kind k off every strip, the book of the first k - 1 kinds, each strip C(N(k), N(k - 1)) times in a row. It is
 -- said over the book, and over what Run shows. A direction is true for back.
-use Prim.Native.Nat.{ℕ, suc, _+_, _*_, _/_, _≤_}
+use Prim.Native.Nat.{ℕ, suc, _+_, _*_, _/_, _≤_, _<_}
 use mathlib.Core.Path.{_≡_, sym, ap, _∙_}
 use mathlib.Core.Bool.{Bool, true, false, false≢true}
 use mathlib.Core.List.{List, [], map}
@@ -11,7 +11,7 @@ use lib.ListN.{length, getD, take}
 use contract.Lifetimes.{Lfts}
 use borrow.Fn.Kinds.{Dens, endedOf}
 use denote.Triple.Clauses.{AtExit}
-use Rattle.rules.specs.Stock.{total, IsStrip}
+use Rattle.rules.specs.Stock.{total, IsStock, IsStrip}
 use Rattle.rules.specs.Book.{turn, book, placeIn}
 use Rattle.rules.specs.SoldOut.{used}
 use Rattle.walker.specs.declared.Walker.{Walker}
@@ -26,13 +26,24 @@ use Rattle.running.proofs.OneAfterOther as runs
 use Rattle.running.proofs.run.run.Kinds as run
 use Rattle.running.proofs.run.run.Reads as run-reads
 use Rattle.bar.specs.Bar.{stood}
-use Rattle.bar.proofs.EndToEnd.{led-stands, led-turned, led-whole, all-left}
+use Rattle.bar.proofs.EndToEnd.{all-left, led-stands, led-many, led-turned, led-whole}
 -- over the book, in either direction; how many times as long it is; and strip by strip. None of these needs the premise
 pub use Rattle.lifting.proofs.Theorems.{small-inside, total-inside, small-at}
 -- the small stock without the sold-out kinds at its end: it has the same book, and under the premise it is accepted
 pub use Rattle.lifting.proofs.Theorems.{small-used, small-accepted}
 -- small books, computed
 pub use Rattle.lifting.proofs.Marked.{on-1-1-2, back-1-1-2, on-2-0-3, on-0-3, on-3}
+
+-- ---- what runs lead to, from the first strip on or from the last back
+
+module _ (d : Bool) (counts s : List ℕ) (stock : IsStock counts) (h : IsStrip counts s) (places : List ℕ) (m : ℕ) (t : List ℕ) (v : Led d counts s places m t) (first : s ≡ getD (turn d (book counts)) 0 []) where
+  led-bar : (i : ℕ) → i < length (stood s places) → lifted counts (getD (stood s places) i []) ≡ getD (turn d (book (small counts))) (i / times counts) []
+  led-bar i l =
+      let few : i ≤ m = omega (arith, led-many d counts s h places m t v) in
+      ap (lifted counts) (led-turned d counts s h places m t v first i few) ∙ small-at counts (stock .some) d i (omega (arith, v .within, all-left d counts s first))
+
+  led-inside : leftAlong d counts t ≡ 0 → map (lifted counts) (stood s places) ≡ smallInARow d counts
+  led-inside none = ap (map (lifted counts)) (led-whole d counts s h places m t v first none) ∙ small-inside counts (stock .some) d
 
 -- ---- one run, by any outcome that its contract allows
 
@@ -60,8 +71,8 @@ module _ (κs : Lfts 3) (a : Dens κs run.ps) (r : Ran) (s : AtExit (endedOf 3 r
     own : IsStrip counts strip
     own = right .accepts z .1
 
-    some : 1 ≤ length counts
-    some = right .accepts z .0 .some
+    accepted-stock : IsStock counts
+    accepted-stock = right .accepts z .0
 
     led : Led back counts strip listed (r .moves) (s .1 .0 .now)
     led = led-once back counts strip (a .1 .1 .0) (a .1 .1 .1 .1 .0 .now) r (s .1 .0 .now) (s .1 .1 .1 .1 .0 .now) right z
@@ -71,15 +82,13 @@ module _ (κs : Lfts 3) (a : Dens κs run.ps) (r : Ran) (s : AtExit (endedOf 3 r
     unfolding along turn
     small-after i l =
         ap (lifted counts) (led-stands back counts strip own listed (r .moves) (s .1 .0 .now) led i l)
-        ∙ small-at counts some false (shifted back (placeIn (book counts) strip) i) (along-below back counts strip own i (omega (arith, led .within)))
+        ∙ small-at counts (accepted-stock .some) false (shifted back (placeIn (book counts) strip) i) (along-below back counts strip own i (omega (arith, led .within)))
 
     -- from the first strip on, or from the last back
     module _ (first : strip ≡ getD (turn back (book counts)) 0 []) where
       -- after each C(N(k), N(k - 1)) moves the small bar moves once: after i moves it has made i / C(N(k), N(k - 1))
-      pub small-bar : (i : ℕ) → i ≤ r .moves → lifted counts (getD bar i []) ≡ getD (turn back (book (small counts))) (i / times counts) []
-      small-bar i l =
-          ap (lifted counts) (led-turned back counts strip own listed (r .moves) (s .1 .0 .now) led first i l)
-          ∙ small-at counts some back i (omega (arith, led .within, all-left back counts strip first))
+      pub small-bar : (i : ℕ) → i < length bar → lifted counts (getD bar i []) ≡ getD (turn back (book (small counts))) (i / times counts) []
+      small-bar = led-bar back counts strip accepted-stock own listed (r .moves) (s .1 .0 .now) led first
 
       -- with room for T - 1 moves it says yes
       pub run-ends : total counts ≤ length (a .1 .1 .1 .1 .0 .now) / 2 + 1 → r .ended ≡ true
@@ -93,11 +102,14 @@ module _ (κs : Lfts 3) (a : Dens κs run.ps) (r : Ran) (s : AtExit (endedOf 3 r
     accepted : r .refusal .no ≡ 0
     accepted = elim (ℕ-discrete (r .refusal .no) 0) [ yes z ↦ z | no z ↦ absurd (false≢true (sym (right .refused z .1) ∙ ended)) ]
 
+    none-left : leftAlong back counts (s .1 .0 .now) ≡ 0
+    none-left = eqb-true _ _ (sym (right .says accepted) ∙ ended)
+
     pub run-shows : bar ≡ turn back (book counts)
-    run-shows = led-whole back counts strip (own accepted) listed (r .moves) (s .1 .0 .now) (led accepted) first (eqb-true _ _ (sym (right .says accepted) ∙ ended))
+    run-shows = led-whole back counts strip (own accepted) listed (r .moves) (s .1 .0 .now) (led accepted) first none-left
 
     pub run-inside : map (lifted counts) bar ≡ smallInARow back counts
-    run-inside = ap (map (lifted counts)) run-shows ∙ small-inside counts (some accepted) back
+    run-inside = led-inside back counts strip (accepted-stock accepted) (own accepted) listed (r .moves) (s .1 .0 .now) (led accepted) first none-left
 
 -- two bars beside each other, the second with the small stock without the sold-out kinds at its end, run from one end of the book to the other in one direction: the big one shows without kind k what
 -- the small one shows, each strip C(N(k), N(k - 1)) times in a row
@@ -139,13 +151,24 @@ module _ (counts : List ℕ) (back : Bool) (κs : ℕ → Lfts 3) (a : (i : ℕ)
   pub runs-end : ((i : ℕ) → 2 ≤ length (lent-lists i)) → (n : ℕ) × (r n .ended ≡ true)
   runs-end = runs.one-ends back counts strips walkers lent-lists r lists each walker-lent accepted
 
-  -- from the first strip on, or from the last back, to the run that says yes
-  module _ (first : strips 0 ≡ getD (turn back (book counts)) 0 []) (n : ℕ) (ended : r n .ended ≡ true) where
+  both : IsStock counts × IsStrip counts (strips 0)
+  both = each 0 .accepts accepted
+
+  -- from the first strip on, or from the last back: what stands on the bar by the first n of them
+  module _ (first : strips 0 ≡ getD (turn back (book counts)) 0 []) (n : ℕ) where
     abbrev shown : List (List ℕ)
-    shown = stood (strips 0) (allListed r lists (suc n))
+    shown = stood (strips 0) (allListed r lists n)
 
-    pub runs-show : shown ≡ turn back (book counts)
-    runs-show = led-whole back counts (strips 0) (each 0 .accepts accepted .1) _ _ (strips (suc n)) (led-by (suc n)) first (eqb-true _ _ (sym (each n .says (none-refused n)) ∙ ended))
+    pub small-bars : (i : ℕ) → i < length shown → lifted counts (getD shown i []) ≡ getD (turn back (book (small counts))) (i / times counts) []
+    small-bars = led-bar back counts (strips 0) (both .0) (both .1) (allListed r lists n) (movesBy r n) (strips n) (led-by n) first
 
-    pub runs-inside : map (lifted counts) shown ≡ smallInARow back counts
-    runs-inside = ap (map (lifted counts)) runs-show ∙ small-inside counts (each 0 .accepts accepted .0 .some) back
+  -- and by those to the one that says yes
+  module _ (first : strips 0 ≡ getD (turn back (book counts)) 0 []) (n : ℕ) (ended : r n .ended ≡ true) where
+    all-gone : leftAlong back counts (strips (suc n)) ≡ 0
+    all-gone = eqb-true _ _ (sym (each n .says (none-refused n)) ∙ ended)
+
+    pub runs-show : shown first (suc n) ≡ turn back (book counts)
+    runs-show = led-whole back counts (strips 0) (both .1) _ _ (strips (suc n)) (led-by (suc n)) first all-gone
+
+    pub runs-inside : map (lifted counts) (shown first (suc n)) ≡ smallInARow back counts
+    runs-inside = led-inside back counts (strips 0) (both .0) (both .1) _ _ (strips (suc n)) (led-by (suc n)) first all-gone
