@@ -49,13 +49,13 @@ static void walk(work *w, size_t i)
 
 static void plain_opened(work *w, size_t i)
 {
-    must(checked_open(w->stock, w->kinds, w->strips[i], w->n, &w->walkers[i]), "plain C opens nothing");
+    must(checked_open(w->stock, w->kinds, w->strips[i], w->n, w->walkers[i].back), "plain C opens nothing");
 }
 
 static void plain_walk(work *w, size_t i)
 {
     uint8_t places[2];
-    must(checked_walk(w->stock, w->kinds, w->reached, w->n, &w->walker, places), "plain C does not walk");
+    must(checked_walk(w->stock, w->kinds, w->reached, w->n, w->walker.back, places), "plain C does not walk");
     (void)i;
 }
 
@@ -101,7 +101,7 @@ static void plain_filed_next(work *w, size_t i)
 static double round_of(call *made, work *w)
 {
     memcpy(w->reached, w->first, w->n);
-    w->walker = w->first_walker;
+    w->walker = (nelfrupi_walker){{false}};
     double began = now();
     for (int i = 0; i < STRIPS; i++) {
         made(w, (size_t)i);
@@ -157,9 +157,7 @@ static void hold_walkers(work *w, double took[2], double ratio[2])
     round_of(opened, w);
     memcpy(given, w->walkers, sizeof given);
     least(openings, 2, w, spent);
-    for (size_t i = 0; i < STRIPS; i++) {
-        must(same_walkers(&given[i], &w->walkers[i]), "Open and plain C's walker differ");
-    }
+    must(memcmp(given, w->walkers, sizeof given) == 0, "Open and plain C's walker differ");
     took[0] = spent[0];
     ratio[0] = spent[0] / spent[1];
     round_of(walk, w);
@@ -167,7 +165,7 @@ static void hold_walkers(work *w, double took[2], double ratio[2])
     given[0] = w->walker;
     least(walks, 2, w, spent);
     must(memcmp(came, w->reached, w->n) == 0, "Walk and plain C come to different strips");
-    must(same_walkers(&given[0], &w->walker), "Walk and plain C come to different walkers");
+    must(memcmp(given, &w->walker, sizeof given[0]) == 0, "Walk and plain C come to different walkers");
     took[1] = spent[0];
     ratio[1] = spent[0] / spent[1];
 }
@@ -217,9 +215,8 @@ static void print_filed(work *w)
 static void print_all_calls(work *works)
 {
     printf("\nA call: nanoseconds, of Walk from the first strip on, of the others on strips in no order; how many times as long\n"
-           "Open and Walk, which work out the number of a strip that has one, take as plain C that makes the same checks and\n"
-           "has a table of binomials; and how many times as long Number and Strip take as plain C that has that table, counts\n"
-           "the cuts too, and checks nothing.\n\n");
+           "Open and Walk take as plain C that makes the same checks; and how many times as long Number and Strip take as\n"
+           "plain C that has a table of binomials, counts the cuts too, and checks nothing.\n\n");
     printf("%-12s%9s%9s%9s%9s%12s%12s%12s%12s\n", "stock", "Open", "Walk", "Number", "Strip", "Open / C", "Walk / C",
            "Number / C", "Strip / C");
     for (size_t i = 0; i < STOCKS; i++) {

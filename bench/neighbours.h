@@ -3,7 +3,7 @@
 #ifndef NEIGHBOURS_H
 #define NEIGHBOURS_H
 
-#include "walkers.h"
+#include "plain.h"
 
 /* Whether two neighbours are of one kind. Hung endless, the last place neighbours the first. */
 ALWAYS bool some_touch(const uint8_t *strip, size_t n, bool endless)
@@ -17,29 +17,28 @@ ALWAYS bool some_touch(const uint8_t *strip, size_t n, bool endless)
 }
 
 typedef struct {
-    uint8_t outcome; /* 1 found, 2 none, 3 stopped; 0 where the stock, the strip or the walker is not right */
+    uint8_t outcome; /* 1 found, 2 none, 3 stopped; 0 where the stock, the strip or the directions are not right */
     uint64_t moves;
 } plain_spaced;
 
-CALLED plain_spaced checked_next_apart(const uint16_t *stock, size_t kinds, uint8_t *strip, size_t n,
-                                       nelfrupi_walker *walker, bool endless, uint64_t given)
+CALLED plain_spaced checked_next_apart(const uint16_t *stock, size_t kinds, uint8_t *strip, size_t n, bool *back,
+                                       bool endless, uint64_t given)
 {
     uint8_t word[64], places[2];
-    if (!is_right_walker(stock, kinds, strip, n, walker)) {
+    bool heading[16];
+    if (!checked_open(stock, kinds, strip, n, heading) || memcmp(heading, back, sizeof heading) != 0) {
         return (plain_spaced){0, 0};
     }
-    nelfrupi_walker there = *walker;
     memcpy(word, strip, n);
     uint64_t moves = 0;
-    while (book_beside(by_left, false, stock, kinds, word, n, there.back, places)) {
+    while (book_beside(by_left, false, stock, kinds, word, n, heading, places)) {
         if (moves == given) {
             return (plain_spaced){3, moves};
         }
         moves++;
         if (!some_touch(word, n, endless)) {
             memcpy(strip, word, n);
-            count_on(&there, moves);
-            *walker = there;
+            memcpy(back, heading, sizeof heading);
             return (plain_spaced){1, moves};
         }
     }

@@ -265,47 +265,22 @@ CALLED size_t run_back_by_left(const uint16_t *stock, size_t kinds, uint8_t *str
     return book_run(by_left, true, stock, kinds, strip, n, back, list, room);
 }
 
-/* How many strips a book has; 0 where they are more than so many. */
-static uint64_t book_total(const uint16_t *stock, size_t kinds, uint64_t most)
-{
-    uint64_t total = 1;
-    size_t below = 0;
-    for (size_t j = 0; j < kinds; j++) {
-        uint64_t patterns = binomials[below + stock[j]][below];
-        if (__builtin_mul_overflow(total, patterns, &total) || total > most) {
-            return 0;
-        }
-        below += stock[j];
-    }
-    return total;
-}
-
 typedef struct {
     uint64_t number, cuts;
 } plain_numbered;
 
-/* The number of a strip and the direction of each kind in one pass, where there is a number: a kind runs backward where the
- * number of the kinds before it is odd. */
-ALWAYS plain_numbered book_place(const uint16_t *stock, size_t kinds, const uint8_t *strip, size_t n, bool *back)
+CALLED plain_numbered book_number(const uint16_t *stock, size_t kinds, const uint8_t *strip, size_t n)
 {
     uint64_t number = 0, cuts = 0;
     size_t below = 0;
-    memset(back, false, 16);
     for (size_t j = 0; j < kinds; j++) {
         uint8_t word[64];
-        back[j] = number % 2 == 1;
         size_t a = reduce(strip, n, (uint8_t)(j + 1), word);
         uint64_t index = word_index(word, a, (uint8_t)(j + 1), below, &cuts), patterns = binomials[a][below];
-        number = number * patterns + (back[j] ? patterns - 1 - index : index);
+        number = number * patterns + (number % 2 == 1 ? patterns - 1 - index : index);
         below += stock[j];
     }
     return (plain_numbered){number, cuts};
-}
-
-CALLED plain_numbered book_number(const uint16_t *stock, size_t kinds, const uint8_t *strip, size_t n)
-{
-    bool back[16];
-    return book_place(stock, kinds, strip, n, back);
 }
 
 CALLED void book_strip(const uint16_t *stock, size_t kinds, uint64_t number, uint8_t *strip, size_t n)
@@ -323,6 +298,29 @@ CALLED void book_strip(const uint16_t *stock, size_t kinds, uint64_t number, uin
         word_lay(strip, a, (uint8_t)(j + 1), below, indices[j]);
         below = a;
     }
+}
+
+/* The direction of each kind at a strip. */
+static void directions(const uint16_t *stock, size_t kinds, const uint8_t *strip, size_t n, bool *back)
+{
+    bool odd = false;
+    size_t below = 0;
+    memset(back, false, 16);
+    for (size_t j = 0; j < kinds; j++) {
+        uint8_t word[64];
+        back[j] = odd;
+        odd ^= has_odd_index(word, reduce(strip, n, (uint8_t)(j + 1), word), (uint8_t)(j + 1), below);
+        below += stock[j];
+    }
+}
+
+CALLED bool checked_open(const uint16_t *stock, size_t kinds, const uint8_t *strip, size_t n, bool *back)
+{
+    if (!is_right(stock, kinds, strip, n)) {
+        return false;
+    }
+    directions(stock, kinds, strip, n, back);
+    return true;
 }
 
 typedef struct {
@@ -365,6 +363,14 @@ CALLED plain_compared checked_which(const uint16_t *stock, size_t kinds, const u
         below = a;
     }
     return (plain_compared){3, 0};
+}
+
+/* One move on by the recursion, of a strip and directions that are looked at first. */
+CALLED bool checked_walk(const uint16_t *stock, size_t kinds, uint8_t *strip, size_t n, bool *back, uint8_t *places)
+{
+    bool right[16];
+    return checked_open(stock, kinds, strip, n, right) && memcmp(right, back, sizeof right) == 0 &&
+           book_beside(by_recursion, false, stock, kinds, strip, n, back, places);
 }
 
 #endif

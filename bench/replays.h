@@ -34,8 +34,14 @@ typedef struct {
 /* Whether a book has at most 4,096 strips; how many it has. */
 static bool few_strips(const uint16_t *stock, size_t kinds, size_t *strips)
 {
-    *strips = (size_t)book_total(stock, kinds, MOST_NUMBERS);
-    return *strips != 0;
+    size_t below = 0, product = 1;
+    for (size_t j = 0; j < kinds && product <= MOST_NUMBERS; j++) {
+        uint64_t patterns = binomials[below + stock[j]][below];
+        product = patterns <= MOST_NUMBERS ? product * (size_t)patterns : MOST_NUMBERS + 1;
+        below += stock[j];
+    }
+    *strips = product;
+    return product <= MOST_NUMBERS;
 }
 
 static bool are_pairs(const uint8_t *pairs, size_t length, size_t n)
@@ -85,8 +91,8 @@ static void list_moves(const bar *b, by_hand *x)
 {
     uint8_t strip[64];
     memcpy(strip, b->first, b->n);
-    nelfrupi_walker walker = nelfrupi_open(b->stock, b->kinds, strip, b->n).walker;
-    nelfrupi_ran ran = nelfrupi_run(b->stock, b->kinds, strip, b->n, walker, false, x->pairs, sizeof x->pairs);
+    nelfrupi_ran ran =
+        nelfrupi_run(b->stock, b->kinds, strip, b->n, (nelfrupi_walker){{false}}, false, x->pairs, sizeof x->pairs);
     must(ran.refusal.no == 0 && ran.ended && ran.moves == b->strips - 1, "Run does not go through the book");
     x->exchanges = (size_t)ran.moves;
 }

@@ -26,7 +26,7 @@ static void plain_written(const work *w, pile *p, size_t i)
     static uint8_t list[2 * MOST_MOVES];
     uint8_t word[64] = {0};
     bool back[16] = {false};
-    must(checked_directions(w->stock, w->kinds, w->strips[i], w->n, back), "plain C opens nothing");
+    must(checked_open(w->stock, w->kinds, w->strips[i], w->n, back), "plain C opens nothing");
     memset(p->out, 0, 82);
     p->out[0] = 1;
     for (size_t j = 0; j < w->kinds; j++) {

@@ -10,7 +10,6 @@
 #include "dictionary.h"
 #include "nelfrupi.h"
 #include "plain.h"
-#include "walkers.h"
 
 /* So many strips that the processor does not learn by heart which way each branch goes on them. */
 enum { STRIPS = 4096 };
@@ -25,7 +24,6 @@ typedef struct {
     uint64_t moves; /* how many are made, from the first strip */
     bool numbered;  /* whether the book has fewer than 2^64 strips */
     uint8_t first[64], strips[STRIPS][64];
-    nelfrupi_walker first_walker;
     uint64_t numbers[STRIPS], cuts[STRIPS];
     nelfrupi_walker walkers[STRIPS];
     uint8_t reached[64]; /* where moves from the first strip have come to, */
@@ -55,7 +53,6 @@ static void prepare(work *w)
     }
     must(nelfrupi_first(w->stock, w->kinds, w->first, w->n).no == 0, "First refuses");
     w->numbered = nelfrupi_count(w->stock, w->kinds).refusal.no == 0;
-    w->first_walker = nelfrupi_open(w->stock, w->kinds, w->first, w->n).walker;
     for (size_t i = 0; i < STRIPS; i++) {
         memcpy(w->strips[i], w->first, w->n);
         for (size_t k = w->n - 1; k > 0; k--) {

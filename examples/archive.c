@@ -38,8 +38,7 @@ static void print_strip(uint64_t number, const uint8_t *strip, size_t length)
     }
 }
 
-/* Goes back as the press driver does, who lends the walker, and prints the strip that so many moves lead to, with the
- * number that the walker then carries: a stock that was looked up by a number has numbered walkers. */
+/* Goes back as the press driver does, who lends the walker, and prints the strip that so many moves lead to. */
 static bool print_back(const uint16_t *stock, size_t kinds, uint8_t *strip, size_t length, nelfrupi_walker walker,
                        uint64_t moves)
 {
@@ -48,7 +47,11 @@ static bool print_back(const uint16_t *stock, size_t kinds, uint8_t *strip, size
             return false;
         }
     }
-    print_strip(walker.number, strip, length);
+    nelfrupi_numbered numbered = nelfrupi_number(stock, kinds, strip, length);
+    if (!accepted(numbered.refusal)) {
+        return false;
+    }
+    print_strip(numbered.number, strip, length);
     printf(" by as many moves back\n");
     return true;
 }

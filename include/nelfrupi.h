@@ -7,9 +7,8 @@
  *            Places are numbered from 1: the block at place p is strip[p - 1].
  *   book     all strips of a stock, each once, in one fixed order. From a strip to the next, two blocks change places.
  *   number   a strip's place in its book, counted from 0. T is the number of strips in the book, so the last is T - 1.
- *   walker   the direction in which each kind moves at one strip, also of kinds whose count is 0, and the strip's number;
- *            where T is 2^64 or more, it is unnumbered. Each strip has one walker, which nelfrupi_open gives, and a move
- *            keeps the number true: it is always what nelfrupi_number answers.
+ *   walker   the direction in which each kind moves at one strip, also of kinds whose count is 0. Each strip has one
+ *            walker, which nelfrupi_open gives.
  *   dictionary, dictionary number
  *            the same strips as in a dictionary: of two, the first place at which they differ decides, and the lower kind
  *            comes first. A strip's place there, counted from 0, is its dictionary number.
@@ -20,7 +19,7 @@
  *   A list is lent as a pointer to its first element and a length, which is a number of elements. The pointer is not
  *   NULL, also where the length is 0, and so many elements can be read there, and written if it is not const. What can
  *   be written overlaps with nothing else that is lent to the same call. What the elements are is free: any content is
- *   taken, and a bad one is refused. A walker's seventeen bools are each true or false.
+ *   taken, and a bad one is refused. A walker's sixteen bytes are each true or false.
  *   No call keeps a pointer, takes memory or has a state of its own. Every call comes back.
  *   Besides the caller's stack nelfrupi_walk and nelfrupi_drive need up to 11 KiB, for a recursion that is at most 64
  *   deep, nelfrupi_replay up to 5 KiB, for its flags, and each other call up to 2 KiB. This is measured on the library as
@@ -29,8 +28,7 @@
  * REFUSALS
  *   Each answer says in `refusal` whether the call was accepted (no 0, place 0) or refused (a number of this table, and
  *   its place). A refused call leaves everything that was lent as it was. In its answer every other number is 0, a bool
- *   is false, and a walker is the one that was lent; nelfrupi_open has none to give back, and gives all forward and
- *   unnumbered.
+ *   is false, and a walker is the one that was lent; nelfrupi_open has none to give back, and gives all forward.
  *   Where several rows hold, the first one in the order that stands with the call is answered.
  *
  *   no  when                                                            place
@@ -47,8 +45,7 @@
  *    9  no strip follows in the book, or for going back none precedes;  0
  *       for writing a sheet, fewer strips follow than moves are asked;
  *       for nelfrupi_dictionary_next, none follows in the dictionary
- *   10  the walker is not the one of the strip: a direction is wrong,   the smallest such kind;
- *       or the directions are right and the number or the flag is not   0
+ *   10  the walker is not the one of the strip                          the smallest kind whose direction is wrong
  *   11  a record of a sheet is missing, unknown, out of order or cut    the record's first byte, counted from 0, or
  *       short, a strip's padding is not zero, or bytes follow the end;  that of the first byte after the end
  *       for rebuilding also, the sheet has under 82 bytes               0
@@ -78,13 +75,9 @@ typedef struct {
     uint64_t place;
 } nelfrupi_refusal;
 
-/* back[j - 1] is the direction of kind j: true is backward. Kind 1, and a kind that the stock has not, runs forward.
- * numbered is false where T is 2^64 or more, and in what a refused nelfrupi_open gives, and number is then 0; else number
- * is the strip's number. The bytes between the two are not set: compare two walkers part by part. */
+/* back[j - 1] is the direction of kind j: true is backward. Kind 1, and a kind that the stock has not, runs forward. */
 typedef struct {
     bool back[16];
-    bool numbered;
-    uint64_t number;
 } nelfrupi_walker;
 
 /* ---- the book and its numbers */
@@ -225,7 +218,7 @@ typedef struct {
     nelfrupi_walker walker;
 } nelfrupi_opened;
 
-/* Open: the walker of a strip, with its number.
+/* Open: the walker of a strip.
  * Refused: 1, 2, 3, 4, 5, 6. */
 nelfrupi_opened nelfrupi_open(const uint16_t *stock, size_t kinds, const uint8_t *strip, size_t length);
 
@@ -237,7 +230,7 @@ typedef struct {
 } nelfrupi_moved;
 
 /* Walk: the lent strip becomes the next strip of the book, or where back is true the one before it. The walker is the
- * strip's own; the answer has the one of the new strip, its number one up or down.
+ * strip's own; the answer has the one of the new strip.
  * Refused: 1, 2, 3, 4, 5, 6, 10, 9; the strip is then as it was. */
 nelfrupi_moved nelfrupi_walk(const uint16_t *stock, size_t kinds, uint8_t *strip, size_t length,
                              nelfrupi_walker walker, bool back);

@@ -198,7 +198,7 @@ pub distance_refuses : (κs : Lfts 3) (a : Dens κs distance.ps) (r : Apart) (s 
 unfolding distance_answer
 distance_refuses κs a r s h = record { named = ap (λ (r : Apart). r.refusal) h; left = distance_refused_zero κs a r s h }
 
--- ---- Open: 1 to 6. All directions forward, and unnumbered
+-- ---- Open: 1 to 6. All directions forward
 
 pub open_refuses : (κs : Lfts 2) (a : Dens κs opening.ps) (r : Opened) (s : AtExit (ended_of 2 opening.ps opening.r) κs) → opening-reads.Post κs a r s
     → Refuses (check_nos a.0.now a.1.0.now) r.refusal (r.walker ≡ all_forward)

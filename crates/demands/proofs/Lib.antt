@@ -13,6 +13,5 @@ pub mod ReallyPrinted
 pub mod HowFar
 pub mod LongOrders
 pub mod NoneTouching
-pub mod KnowsNumber
 pub mod SmallInside
 pub mod Outcomes

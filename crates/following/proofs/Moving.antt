@@ -11,8 +11,9 @@ use lib.ListN.{length, get_or, drop}
 use Rattle.rules.specs.Stock.{IsStock, IsStrip}
 use Rattle.rules.specs.Book.{same}
 use Rattle.rules.proofs.Strips.{strip_sum}
-use Rattle.directions.specs.Directions.{directions}
-use Rattle.walking.specs.declared.stepping.Exchanged.{Exchanged}
+use Rattle.walker.specs.declared.Walker.{Walker}
+use Rattle.walker.specs.Walkers.{walker_for}
+use Rattle.walking.specs.declared.Moved.{Moved}
 use Rattle.walking.specs.Answers.{onward, left}
 use Rattle.walking.specs.Checked.{Checked, step_answer, step_strip}
 use Rattle.walking.proofs.Along.{some_left, along_none, along_left, along_beside}
@@ -22,17 +23,17 @@ use Rattle.following.specs.Ends.{TookAny}
 use Rattle.following.proofs.Steps.{at_short, at_move, more_none, more_more}
 use Rattle.following.proofs.Next.{next_yes, next_no_lem}
 
-pub record Moving (counts sheet s : List ℕ) (from : ℕ) (t : List ℕ) (w : List Bool) (at i : ℕ) : Type 0 where
+pub record Moving (counts sheet s : List ℕ) (from : ℕ) (t : List ℕ) (w : Walker) (at i : ℕ) : Type 0 where
   pub place : at ≡ from + 3 * i
   pub long : at ≤ length sheet
   pub first : i ≡ 0 → (at < length sheet) × (get_or sheet at 0 ≡ 3)
   pub strip : t ≡ onward counts s i
   pub within : i ≤ left counts s
   pub own : IsStrip counts t
-  pub directed : w ≡ directions counts t
+  pub walker : w ≡ walker_for counts t
   pub rest : (strides : Bool) → follow strides counts s from (drop from sheet) ≡ more i (follow strides counts t at (drop at sheet))
 
-pub begin : (counts sheet s : List ℕ) (w : List Bool) (from : ℕ) → Checked counts s w → from < length sheet → get_or sheet from 0 ≡ 3 → Moving counts sheet s from s w from 0
+pub begin : (counts sheet s : List ℕ) (w : Walker) (from : ℕ) → Checked counts s w → from < length sheet → get_or sheet from 0 ≡ 3 → Moving counts sheet s from s w from 0
 begin counts sheet s w from c h move = record {
   place = omega arith;
   long = omega arith;
@@ -40,13 +41,13 @@ begin counts sheet s w from c h move = record {
   strip = sym (along_none false counts s c.strip);
   within = omega arith;
   own = c.strip;
-  directed = c.directed;
+  walker = c.walker;
   rest = λ strides. more_none (follow strides counts s from (drop from sheet));
 }
 
-module _ (counts sheet s : List ℕ) (from : ℕ) (t : List ℕ) (w : List Bool) (at i : ℕ) (v : Moving counts sheet s from t w at i) where
+module _ (counts sheet s : List ℕ) (from : ℕ) (t : List ℕ) (w : Walker) (at i : ℕ) (v : Moving counts sheet s from t w at i) where
   pub moving_checked : IsStock counts → Checked counts t w
-  moving_checked k = record { stock = k; strip = v.own; directed = v.directed }
+  moving_checked k = record { stock = k; strip = v.own; walker = v.walker }
 
   pub moving_long : IsStrip counts s → length t ≡ length s
   moving_long h = strip_sum counts t v.own ∙ sym (strip_sum counts s h)
@@ -56,7 +57,7 @@ module _ (counts sheet s : List ℕ) (from : ℕ) (t : List ℕ) (w : List Bool)
     behind : at ≡ from + bytes
     behind = omega (arith, v.place)
 
-    halt_moving : (r : Taken) (n : ℕ) (u : List ℕ) → r ≡ record { no = suc n; directions = w; bytes = bytes; moves = 0 } → ((strides : Bool) → follow strides counts t at (drop at sheet) ≡ refused_at (suc n) at) → TookAny counts sheet s from r u
+    halt_moving : (r : Taken) (n : ℕ) (u : List ℕ) → r ≡ record { no = suc n; walker = w; bytes = bytes; moves = 0 } → ((strides : Bool) → follow strides counts t at (drop at sheet) ≡ refused_at (suc n) at) → TookAny counts sheet s from r u
     halt_moving r n u is e = rw is record {
       took = λ strides. record {
         within = omega (arith, behind, v.long);
@@ -66,7 +67,7 @@ module _ (counts sheet s : List ℕ) (from : ℕ) (t : List ℕ) (w : List Bool)
     }
 
     -- no move stands here: those before are taken
-    pub moves_taken : (at < length sheet → get_or sheet at 0 ≡ 3 → ⊥) → TookAny counts sheet s from (record { no = 0; directions = w; bytes = bytes; moves = i }) t
+    pub moves_taken : (at < length sheet → get_or sheet at 0 ≡ 3 → ⊥) → TookAny counts sheet s from (record { no = 0; walker = w; bytes = bytes; moves = i }) t
     moves_taken out = record {
       took = λ strides. record {
         within = omega (arith, behind, v.long);
@@ -75,7 +76,7 @@ module _ (counts sheet s : List ℕ) (from : ℕ) (t : List ℕ) (w : List Bool)
           follows = v.rest strides ∙ ap (λ (p : ℕ). more i (follow strides counts t p (drop p sheet))) behind;
           strip = v.strip;
           within = v.within;
-          directed = v.directed;
+          walker = v.walker;
           few = λ k. absurd (omega (arith, behind, v.place));
           some = elim (ℕ_discrete i 0) [ yes z ↦ absurd (out (v.first z).0 (v.first z).1) | no z ↦ omega (arith, behind, v.place) ];
         };
@@ -83,17 +84,17 @@ module _ (counts sheet s : List ℕ) (from : ℕ) (t : List ℕ) (w : List Bool)
     }
 
     module _ (h : at < length sheet) (move : get_or sheet at 0 ≡ 3) (r : Taken) where
-      pub short_stops : r ≡ record { no = 11; directions = w; bytes = bytes; moves = 0 } → length sheet - at < 3 → TookAny counts sheet s from r t
+      pub short_stops : r ≡ record { no = 11; walker = w; bytes = bytes; moves = 0 } → length sheet - at < 3 → TookAny counts sheet s from r t
       short_stops is l = halt_moving r 10 t is (λ strides. at_short strides counts t sheet at h move l)
 
-      module _ (k : IsStock counts) (l : 3 ≤ length sheet - at) (m : Exchanged) (u : List ℕ) (made : (m ≡ step_answer false counts t w) × (u ≡ step_strip false counts t)) (b : Bool)
+      module _ (k : IsStock counts) (l : 3 ≤ length sheet - at) (m : Moved) (u : List ℕ) (made : (m ≡ step_answer false counts t w) × (u ≡ step_strip false counts t)) (b : Bool)
           (held : b ≡ (eqb m.refusal.no 0 && same (m.low ∷ m.high ∷ []) (get_or sheet (at + 1) 0 ∷ get_or sheet (at + 2) 0 ∷ []))) where
-        pub miss_stops : r ≡ record { no = 12; directions = w; bytes = bytes; moves = 0 } → b ≡ false → TookAny counts sheet s from r u
+        pub miss_stops : r ≡ record { no = 12; walker = w; bytes = bytes; moves = 0 } → b ≡ false → TookAny counts sheet s from r u
         miss_stops is e = halt_moving r 11 u is (λ strides. at_move strides counts t sheet at h move l ∙ rw (next_no_lem counts t w (moving_checked k) m u made _ _ b held e))
 
-  module _ (k : IsStock counts) (own : IsStrip counts s) (h : at < length sheet) (move : get_or sheet at 0 ≡ 3) (l : 3 ≤ length sheet - at) (m : Exchanged) (u : List ℕ) (made : (m ≡ step_answer false counts t w) × (u ≡ step_strip false counts t)) (b : Bool)
+  module _ (k : IsStock counts) (own : IsStrip counts s) (h : at < length sheet) (move : get_or sheet at 0 ≡ 3) (l : 3 ≤ length sheet - at) (m : Moved) (u : List ℕ) (made : (m ≡ step_answer false counts t w) × (u ≡ step_strip false counts t)) (b : Bool)
       (held : b ≡ (eqb m.refusal.no 0 && same (m.low ∷ m.high ∷ []) (get_or sheet (at + 1) 0 ∷ get_or sheet (at + 2) 0 ∷ []))) where
-    pub hit_moves : b ≡ true → Moving counts sheet s from u m.directions (at + 3) (i + 1)
+    pub hit_moves : b ≡ true → Moving counts sheet s from u m.walker (at + 3) (i + 1)
     hit_moves e =
         let n = next_yes counts t w (moving_checked k) m u made _ _ b held e in
         let one = n.1 in
@@ -107,6 +108,6 @@ module _ (counts sheet s : List ℕ) (from : ℕ) (t : List ℕ) (w : List Bool)
           strip = one.strip ∙ next;
           within = omega (arith, some, left_is, v.within);
           own = one.own;
-          directed = one.directed;
+          walker = one.walker;
           rest = λ strides. v.rest strides ∙ ap (more i) (at_move strides counts t sheet at h move l ∙ rw (n.0, ← one.strip)) ∙ more_more i 1 (follow strides counts u (at + 3) (drop (at + 3) sheet));
         }

@@ -9,7 +9,8 @@ use lib.Dec.{eqb}
 use Rattle.rules.specs.Book.{same}
 use Rattle.rules.specs.Neighbours.{places}
 use Rattle.rules.proofs.Neighbours.{no_places}
-use Rattle.walking.specs.declared.stepping.Exchanged.{Exchanged}
+use Rattle.walker.specs.declared.Walker.{Walker}
+use Rattle.walking.specs.declared.Moved.{Moved}
 use Rattle.walking.specs.Answers.{onward}
 use Rattle.walking.specs.Checked.{Checked, step_answer, step_strip}
 use Rattle.walking.proofs.Along.{past_last, none_left}
@@ -36,7 +37,7 @@ module _ (no low high p q : ℕ) where
 
 -- ---- what it says of the step
 
-module _ (counts t : List ℕ) (w : List Bool) (c : Checked counts t w) (m : Exchanged) (u : List ℕ) (is : (m ≡ step_answer false counts t w) × (u ≡ step_strip false counts t)) (p q : ℕ) (b : Bool) (held : b ≡ (eqb m.refusal.no 0 && same (m.low ∷ m.high ∷ []) (p ∷ q ∷ []))) where
+module _ (counts t : List ℕ) (w : Walker) (c : Checked counts t w) (m : Moved) (u : List ℕ) (is : (m ≡ step_answer false counts t w) × (u ≡ step_strip false counts t)) (p q : ℕ) (b : Bool) (held : b ≡ (eqb m.refusal.no 0 && same (m.low ∷ m.high ∷ []) (p ∷ q ∷ []))) where
   made : b ≡ true → m.refusal.no ≡ 0
   made e = elim (ℕ_discrete m.refusal.no 0) [ yes z ↦ z | no z ↦ absurd (false≢true (sym (rw (ne_eqb m.refusal.no 0 z) at held) ∙ e)) ]
 

@@ -7,7 +7,8 @@ use native.Mathlib.Omega.{arith}
 use lib.Dec.{eqb}
 use lib.ListN.{length, get_or, take, drop}
 use Rattle.rules.specs.Refusals.{first_of}
-use Rattle.directions.specs.Directions.{directions}
+use Rattle.walker.specs.declared.Walker.{Walker}
+use Rattle.walker.specs.Walkers.{walker_for}
 use Rattle.walking.specs.Answers.{onward}
 use Rattle.strides.specs.Strides.{value, stride_nos}
 use Rattle.strides.specs.Strode.{Strode}
@@ -17,10 +18,10 @@ use Rattle.following.specs.Following.{Followed, refused_at, if_made, follow}
 use Rattle.following.specs.Ends.{Took}
 use Rattle.following.proofs.Steps.{at_other, at_short_stride, at_stride, made, made_not}
 
-module _ (counts sheet s : List ℕ) (at : ℕ) (w : List Bool) (h : at < length sheet) where
+module _ (counts sheet s : List ℕ) (at : ℕ) (w : Walker) (h : at < length sheet) where
   -- what is answered where the record is refused
   abbrev pub halted : ℕ → Taken
-  halted n = record { no = n; directions = w; bytes = 0; moves = 0 }
+  halted n = record { no = n; walker = w; bytes = 0; moves = 0 }
 
   halts : (strides : Bool) (n : ℕ) (t : List ℕ) → (n ≡ 0 → ⊥) → follow strides counts s at (drop at sheet) ≡ refused_at n at → Took strides counts sheet s at (halted n) t
   halts strides n t k e =
@@ -43,7 +44,7 @@ module _ (counts sheet s : List ℕ) (at : ℕ) (w : List Bool) (h : at < length
       pub took_stride_no : (no ≡ 0 → ⊥) → Took true counts sheet s at (halted no) t
       took_stride_no e = halts true no t e (whole_stride ∙ made_not (first_of (stride_nos counts s n)) n at _ (λ k. e (v.number ∙ k)) ∙ rw v.number)
 
-      pub took_stride : no ≡ 0 → (next : List Bool) → next ≡ directions counts t → Took true counts sheet s at (record { no = 0; directions = next; bytes = 9; moves = n }) t
+      pub took_stride : no ≡ 0 → (next : Walker) → next ≡ walker_for counts t → Took true counts sheet s at (record { no = 0; walker = next; bytes = 9; moves = n }) t
       took_stride e next w_is =
           let z : (first_of (stride_nos counts s n)).0 ≡ 0 = sym v.number ∙ e in
           let a = rows_passed counts s n z in
@@ -54,7 +55,7 @@ module _ (counts sheet s : List ℕ) (at : ℕ) (w : List Bool) (h : at < length
               follows = whole_stride ∙ made (first_of (stride_nos counts s n)) n at _ z ∙ rw (v.strip e);
               strip = v.strip e;
               within = a.within;
-              directed = w_is;
+              walker = w_is;
               few = λ k. a.few;
               some = omega arith;
             };

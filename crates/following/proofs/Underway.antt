@@ -11,7 +11,8 @@ use Rattle.rules.specs.Refusals.{fine}
 use Rattle.rules.proofs.Refusals.{unless_refused}
 use Rattle.rules.proofs.Strips.{strip_sum}
 use Rattle.rules.proofs.Places.{place_below}
-use Rattle.directions.specs.Directions.{directions}
+use Rattle.walker.specs.declared.Walker.{Walker}
+use Rattle.walker.specs.Walkers.{walker_for}
 use Rattle.walking.specs.Answers.{left_along, left}
 use Rattle.walking.specs.Checked.{Checked}
 use Rattle.walking.proofs.Along.{along_strip, along_left}
@@ -22,20 +23,20 @@ use Rattle.following.specs.Ends.{readout_of, Ends, Passed, Took}
 use Rattle.following.proofs.Steps.{at_none, at_end, more_none, more_more}
 
 -- more moves than bytes are made only where the stock can be numbered
-pub record Underway (strides : Bool) (counts sheet : List ℕ) (whole : Followed) (t : List ℕ) (w : List Bool) (at i : ℕ) : Type 0 where
+pub record Underway (strides : Bool) (counts sheet : List ℕ) (whole : Followed) (t : List ℕ) (w : Walker) (at i : ℕ) : Type 0 where
   pub fewer : at < i → total counts < 2 ^ 64
   pub ahead : i + left counts t < total counts
   pub own : IsStrip counts t
-  pub directed : w ≡ directions counts t
+  pub walker : w ≡ walker_for counts t
   pub rest : whole ≡ more i (follow strides counts t at (drop at sheet))
 
-pub start : (strides : Bool) (counts sheet s : List ℕ) (w : List Bool) (at : ℕ) → Checked counts s w → Underway strides counts sheet (follow strides counts s at (drop at sheet)) s w at 0
+pub start : (strides : Bool) (counts sheet s : List ℕ) (w : Walker) (at : ℕ) → Checked counts s w → Underway strides counts sheet (follow strides counts s at (drop at sheet)) s w at 0
 unfolding left_along
 start strides counts sheet s w at c = record {
   fewer = λ l. absurd (omega arith);
   ahead = omega (arith, place_below counts s c.strip);
   own = c.strip;
-  directed = c.directed;
+  walker = c.walker;
   rest = more_none (follow strides counts s at (drop at sheet));
 }
 
@@ -43,9 +44,9 @@ start strides counts sheet s w at c = record {
 pub answered : {f : Followed} {r a : Readout} {t : List ℕ} → r ≡ a → Ends f a t → Ends f r t
 answered e h = rw e h
 
-module _ (strides : Bool) (counts sheet : List ℕ) (whole : Followed) (t : List ℕ) (w : List Bool) (at i : ℕ) (v : Underway strides counts sheet whole t w at i) where
+module _ (strides : Bool) (counts sheet : List ℕ) (whole : Followed) (t : List ℕ) (w : Walker) (at i : ℕ) (v : Underway strides counts sheet whole t w at i) where
   pub checked : IsStock counts → Checked counts t w
-  checked k = record { stock = k; strip = v.own; directed = v.directed }
+  checked k = record { stock = k; strip = v.own; walker = v.walker }
 
   pub same_strip : (s : List ℕ) → IsStrip counts s → length t ≡ length s
   same_strip s h = strip_sum counts t v.own ∙ sym (strip_sum counts s h)
@@ -83,12 +84,12 @@ module _ (strides : Bool) (counts sheet : List ℕ) (whole : Followed) (t : List
       p : Passed strides counts sheet t at r u
       p = k.on e
 
-      pub on : (made : ℕ) → made ≡ i + r.moves → Underway strides counts sheet whole u r.directions (at + r.bytes) made
+      pub on : (made : ℕ) → made ≡ i + r.moves → Underway strides counts sheet whole u r.walker (at + r.bytes) made
       on made is = rw is record {
         fewer = λ l. elim (dec_lt at i) [ yes m ↦ v.fewer m | no m ↦ p.few (omega arith) ];
         ahead = rw p.strip (omega (arith, along_left false counts t v.own r.moves p.within, p.within, v.ahead));
         own = rw p.strip (along_strip false counts t v.own r.moves p.within);
-        directed = p.directed;
+        walker = p.walker;
         rest = v.rest ∙ ap (more i) p.follows ∙ more_more i r.moves (follow strides counts u (at + r.bytes) (drop (at + r.bytes) sheet));
       }
 

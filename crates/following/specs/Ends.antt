@@ -2,7 +2,7 @@
 use Rattle.std.specs.Prelude.{ℕ, ◌+◌, ◌^◌, ◌≤◌, ◌<◌, ◌≡◌, Bool, List, length, drop}
 use Rattle.rules.specs.Stock.{total}
 use Rattle.rules.specs.Refusals.{fine, unless}
-use Rattle.directions.specs.Directions.{directions}
+use Rattle.walker.specs.Walkers.{walker_for}
 use Rattle.walking.specs.Answers.{onward, left}
 use Rattle.following.specs.declared.Readout.{Readout}
 use Rattle.following.specs.declared.record.Taken.{Taken}
@@ -23,7 +23,7 @@ pub record Passed (strides : Bool) (counts sheet s : List ℕ) (at : ℕ) (r : T
   pub follows : follow strides counts s at (drop at sheet) ≡ more r.moves (follow strides counts t (at + r.bytes) (drop (at + r.bytes) sheet))
   pub strip : t ≡ onward counts s r.moves
   pub within : r.moves ≤ left counts s
-  pub directed : r.directions ≡ directions counts t
+  pub walker : r.walker ≡ walker_for counts t
   pub few : r.bytes < r.moves → total counts < 2 ^ 64
   pub some : 1 ≤ r.bytes
 

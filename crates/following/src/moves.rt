@@ -7,8 +7,9 @@ ghost use Rattle.following.specs.Ends.{readout_of, Ends};
 
 use crate::Readout;
 use crate::record::take_records;
-use directions::directions_of;
 use stock::Refusal;
+use walker::Walker;
+use walker::directions::walker_of;
 
 // A reading that is refused.
 pub fn refused(no: u8, at: usize) -> Readout
@@ -44,33 +45,33 @@ fn follow_on(
     from: usize,
     stock: &[u16],
     strip: &mut [u8],
-    directions: [bool; 16],
+    walker: Walker,
     strides: bool,
 ) -> Readout
-    requires { Checked stock.now strip.old directions }
+    requires { Checked stock.now strip.old walker }
     ensures { Ends (follow strides stock.now strip.old from (drop from sheet.now)) result strip.new }
 {
-    let mut directions = directions;
+    let mut walker = walker;
     let mut at = from;
     let mut moves: u64 = 0;
     while at < sheet.len() {
         if sheet[at] == 4 {
             return end_at(sheet, at, moves);
         }
-        let taken = take_records(sheet, at, stock, strip, directions, strides);
+        let taken = take_records(sheet, at, stock, strip, walker, strides);
         let no = taken.no;
         at += taken.bytes;
         if no != 0 {
             return refused(no, at);
         }
-        let next = taken.directions;
-        directions = next;
+        let next = taken.walker;
+        walker = next;
         moves += taken.moves;
     }
     refused(11, at)
 }
 
-// The same from a strip whose directions are not known yet.
+// The same from a strip whose walker is not known yet.
 pub fn follow_from(
     sheet: &[u8],
     from: usize,
@@ -81,6 +82,6 @@ pub fn follow_from(
     requires { IsStock stock.now × IsStrip stock.now strip.old }
     ensures { Ends (follow strides stock.now strip.old from (drop from sheet.now)) result strip.new }
 {
-    let directions = directions_of(stock, strip);
-    follow_on(sheet, from, stock, strip, directions, strides)
+    let walker = walker_of(stock, strip);
+    follow_on(sheet, from, stock, strip, walker, strides)
 }

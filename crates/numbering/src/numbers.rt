@@ -1,21 +1,19 @@
-// The number of a strip, its directions and its cuts, kind after kind.
+// The number of a strip and its cuts, kind after kind.
 ghost use Rattle.std.specs.Prelude.{◌+◌, ◌*◌, ◌^◌, ◌≤◌, ◌<◌, ◌≡◌};
 ghost use Rattle.rules.specs.Stock.{total, IsStock, IsStrip};
 ghost use Rattle.rules.specs.Book.{book, place_in};
 ghost use Rattle.rules.proofs.Snake.{numbered};
 ghost use Rattle.cuts.specs.Cuts.{strip_cuts};
-ghost use Rattle.directions.specs.Directions.{directions};
 ghost use Rattle.counting.specs.Patterns.{ArePatterns};
 
 use pattern::{faced, index_of, reduce};
 
-// A strip's place in its book, the direction of each kind, and the cuts for all of them. The cuts are narrower, so that they and the number are read back
-// each by itself: both at once takes longer.
+// A strip's place in its book, and the cuts for all its kinds. The cuts are narrower, so that each of the two is read back by itself: both at once takes
+// longer.
 #[derive(Drop)]
 pub struct Placed {
     pub number: u64,
     pub cuts: u32,
-    pub back: [bool; 16],
 }
 
 // One kind more: the number before times the patterns of the kind, and the index, counted backward where the number before is odd.
@@ -26,21 +24,18 @@ fn numbered_by(patterns: u64, number: u64, index: u64) -> u64
     number * patterns + faced(number % 2 == 1, patterns, index)
 }
 
-// The number, the directions and the cuts of a strip whose stock can be numbered, one kind more at a time: a kind runs backward where the number before it
-// is odd.
+// The number and the cuts of a strip whose stock can be numbered, one kind more at a time.
 pub fn number_of(patterns: &[u64; 16], stock: &[u16], strip: &[u8]) -> Placed
     requires { ArePatterns stock.now patterns.now × IsStock stock.now × IsStrip stock.now strip.now × (total stock.now < 2 ^ 64) }
-    ensures { (result.number ≡ place_in (book stock.now) strip.now) × (result.cuts ≡ strip_cuts stock.now strip.now) × (result.back ≡ directions stock.now strip.now) }
+    ensures { (result.number ≡ place_in (book stock.now) strip.now) × (result.cuts ≡ strip_cuts stock.now strip.now) }
 {
     let mut word = [0; 64];
     let mut number: u64 = 0;
     let mut cuts: u32 = 0;
-    let mut back = [false; 16];
     let mut below: usize = 0;
     let mut j: usize = 0;
     while j < stock.len() {
         let many = patterns[j];
-        back[j] = number % 2 == 1;
         j += 1;
         let kind = j as u8;
         let n = reduce(strip, kind, &mut word);
@@ -49,5 +44,5 @@ pub fn number_of(patterns: &[u64; 16], stock: &[u16], strip: &[u8]) -> Placed
         cuts += found.cuts;
         below = n;
     }
-    Placed { number, cuts, back }
+    Placed { number, cuts }
 }

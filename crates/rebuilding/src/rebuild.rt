@@ -5,9 +5,9 @@ ghost use Rattle.rebuilding.specs.Parts.{Sound};
 
 use crate::Rebuilt;
 use crate::differing::differ;
-use directions::directions_of;
 use records::opening::opening_at;
 use stock::Refusal;
+use walker::directions::walker_of;
 use writing::moves::moves_up_to;
 use writing::room::has_room;
 use writing::whole::put_sheet;
@@ -31,12 +31,12 @@ fn rebuild_from(sheet: &[u8], stock: &[u16], strip: &[u8], out: &mut [u8]) -> Re
     ensures { (result ≡ rebuild_answer sheet.now out.old) × (out.new ≡ rebuild_out sheet.now out.old) }
 {
     let most = (sheet.len() - 82) / 3;
-    let directions = directions_of(stock, strip);
-    let moves = moves_up_to(stock, strip, directions, most);
+    let walker = walker_of(stock, strip);
+    let moves = moves_up_to(stock, strip, walker, most);
     if !has_room(out.len(), moves as u64) {
         return refused(Refusal { no: 13, place: 0 });
     }
-    put_sheet(out, stock, strip, directions, moves);
+    put_sheet(out, stock, strip, walker, moves);
     let length = 83 + 3 * moves;
     let found = differ(&out[..length], sheet, moves);
     Rebuilt {

@@ -1,21 +1,18 @@
 -- Proofs. Run called with any stock, strip and walker: refused by 1 to 6 or 10, or else what the loop makes of what is then checked.
 use Prim.Native.Nat.{ℕ}
-use mathlib.Core.Path.{◌≡◌, refl, sym, ap, ◌∙◌}
+use mathlib.Core.Path.{◌≡◌, sym, ap}
 use mathlib.Core.Bool.{Bool, false}
 use mathlib.Core.List.{List}
 use lib.Dec.{eqb}
-use lib.ListN.{length}
 use Rattle.rules.specs.Refusals.{first_of}
 use Rattle.rules.proofs.Refusals.{unless_refused, passed_fine}
 use Rattle.stock.specs.declared.Refusal.{Refusal}
 use Rattle.stock.specs.Refused.{refusal}
 use Rattle.stock.proofs.Tested.{passed, stopped}
 use Rattle.walker.specs.declared.Walker.{Walker}
-use Rattle.walker.specs.Walkers.{walker_for, walker_nos}
-use Rattle.walking.specs.Answers.{along, left_along}
-use Rattle.walking.specs.Checked.{carried_on}
-use Rattle.walking.proofs.Called.{counted_walker}
-use Rattle.running.specs.declared.run.Reached.{Reached}
+use Rattle.walker.specs.Walkers.{walker_nos}
+use Rattle.walking.specs.Answers.{left_along}
+use Rattle.running.specs.declared.run.Ran.{Ran}
 use Rattle.running.specs.Answers.{run_moves, as_ran, run_answer, run_strip, run_list}
 use Rattle.running.specs.Made.{Made}
 
@@ -31,11 +28,6 @@ module _ (d : Bool) (counts s list : List ℕ) (w : Walker) (r : Refusal) (is : 
         sym (unless_refused list _ e k),
       )
 
-  -- or not: the loop makes the moves, and the number is counted by them
-  pub ran : length w.back ≡ 16 → r.no ≡ 0 → (x : Reached) (t listed : List ℕ) → Made d counts s list x t listed → (y : Walker) → y ≡ carried_on d w x.directions x.moves
-      → (record { refusal = r; moves = x.moves; ended = x.ended; walker = y } ≡ run_answer d counts s w list) × (t ≡ run_strip d counts s w list) × (listed ≡ run_list d counts s w list)
+  pub run : (m : Ran) (t listed : List ℕ) → Made d counts s list m t listed → r.no ≡ 0 → (m ≡ run_answer d counts s w list) × (t ≡ run_strip d counts s w list) × (listed ≡ run_list d counts s w list)
   unfolding run_answer run_strip run_list
-  ran l h x t listed v y y-is =
-      let none = passed_fine (walker_nos counts s w) (passed (walker_nos counts s w) r is h) in
-      let own : y ≡ walker_for counts (along d counts s x.moves) = y-is ∙ counted_walker counts s w r is l h v.walked ∙ ap (walker_for counts) v.walked.strip in
-      rw (is, none, ← v.all, own, v.ends) (refl, v.walked.strip, v.listed)
+  run m t listed v h = rw (passed_fine (walker_nos counts s w) (passed (walker_nos counts s w) r is h)) (v.answer, v.strip, v.listed)

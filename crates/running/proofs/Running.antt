@@ -1,6 +1,6 @@
--- Proofs. A run on its way: after i moves the strip is the one i numbers further, w its directions, and the list has the places of those moves.
+-- Proofs. A run on its way: after i moves the strip is the one i numbers further, the walker its walker, and the list has the places of those moves.
 use Prim.Native.Nat.{ℕ, suc, ◌+◌, ◌*◌, ◌/◌, ◌≤◌, ◌<◌}
-use mathlib.Core.Path.{◌≡◌, refl, sym, ◌∙◌}
+use mathlib.Core.Path.{◌≡◌, refl, sym, ap, ◌∙◌}
 use mathlib.Core.Bool.{Bool, true, false}
 use mathlib.Core.List.{List, [], ◌∷◌, ◌++◌, append_assoc}
 use native.Mathlib.Numerals.{add-one}
@@ -10,25 +10,28 @@ use lib.Dec.{eqb}
 use lib.ListN.{length, drop, set, length-append, length-drop}
 use lib.Seq.{drop-cons, set_at}
 use Rattle.rules.specs.Stock.{IsStock, IsStrip}
+use Rattle.rules.specs.Refusals.{fine}
 use Rattle.rules.specs.Neighbours.{swap}
 use Rattle.rules.proofs.Strips.{move_of}
-use Rattle.walking.specs.declared.stepping.Exchanged.{Exchanged}
+use Rattle.walker.specs.declared.Walker.{Walker}
+use Rattle.walker.specs.Walkers.{walker_for}
+use Rattle.walking.specs.declared.Moved.{Moved}
 use Rattle.walking.specs.declared.finding.Found.{Found}
 use Rattle.walking.specs.Answers.{left_along}
 use Rattle.walking.specs.Checked.{Checked, found, as_made}
 use Rattle.walking.proofs.OneMove.{Makes}
 use Rattle.walking.proofs.Walked as walks
-use Rattle.running.specs.declared.run.Reached.{Reached}
-use Rattle.running.specs.Answers.{run_moves, moves_from}
-use Rattle.running.specs.Made.{as_reached, Made}
+use Rattle.running.specs.declared.run.Ran.{Ran}
+use Rattle.running.specs.Answers.{run_moves, as_ran, moves_from}
+use Rattle.running.specs.Made.{Made}
 use Rattle.running.proofs.Listed.{moves_long}
 
-pub record Running (d : Bool) (counts s list₀ t : List ℕ) (w : List Bool) (list : List ℕ) (i : ℕ) : Type 0 where
+pub record Running (d : Bool) (counts s list₀ t : List ℕ) (w : Walker) (list : List ℕ) (i : ℕ) : Type 0 where
   pub walked : walks.Walked d counts s t w i
   pub room : i ≤ length list₀ / 2
   pub listed : list ≡ moves_from d counts s i ++ drop (2 * i) list₀
 
-pub start : (d : Bool) (counts s list₀ : List ℕ) (w : List Bool) → Checked counts s w → Running d counts s list₀ s w list₀ 0
+pub start : (d : Bool) (counts s list₀ : List ℕ) (w : Walker) → Checked counts s w → Running d counts s list₀ s w list₀ 0
 unfolding moves_from
 start d counts s list₀ w c = record { walked = walks.start d counts s w c; room = omega arith; listed = refl }
 
@@ -40,7 +43,7 @@ write_two m l k a b e h =
     rw (f, add-one k, drop-cons l k 0 (omega arith), drop-cons l (suc k) 0 h, set_at m _ _ a k e, ← append_assoc m (a ∷ []) _)
     (set_at (m ++ (a ∷ [])) _ _ b (suc k) n ∙ append_assoc m (a ∷ []) _)
 
-module _ (d : Bool) (counts s list₀ t : List ℕ) (w : List Bool) (list : List ℕ) (i : ℕ) (k : IsStock counts) (h : IsStrip counts s) (v : Running d counts s list₀ t w list i) where
+module _ (d : Bool) (counts s list₀ t : List ℕ) (w : Walker) (list : List ℕ) (i : ℕ) (k : IsStock counts) (h : IsStrip counts s) (v : Running d counts s list₀ t w list i) where
   pub checked : Checked counts t w
   checked = walks.checked d counts s t w i k h v.walked
 
@@ -54,12 +57,16 @@ module _ (d : Bool) (counts s list₀ t : List ℕ) (w : List Bool) (list : List
   same_list = rw (v.listed, length-append (moves_from d counts s i) (drop (2 * i) list₀), length-drop (2 * i) list₀) (omega (arith, long, v.room))
 
   -- where i moves are all, they are made
-  all : (x : Reached) (b : Bool) → x ≡ as_reached i b w → run_moves d counts s list₀ ≡ i → b ≡ eqb i (left_along d counts s) → Made d counts s list₀ x t list
-  all x b a e f = rw a record { walked = v.walked; all = sym e; ends = f; listed = v.listed }
+  all : (x : Ran) (b : Bool) → x ≡ as_ran fine i b w → run_moves d counts s list₀ ≡ i → b ≡ eqb i (left_along d counts s) → Made d counts s list₀ x t list
+  all x b a e f = record {
+    answer = a ∙ rw (e, f) (ap (as_ran fine i (eqb i (left_along d counts s))) (v.walked.walker ∙ ap (walker_for counts) v.walked.strip));
+    strip = rw e v.walked.strip;
+    listed = rw e v.listed;
+  }
 
   module _ (m : Found) (is : m ≡ found (length counts) (move_of d counts t)) where
     -- no move is found: the end of the book is reached
-    pub stop : m.kind ≡ 0 → (x : Reached) → x ≡ as_reached i true w → Made d counts s list₀ x t list
+    pub stop : m.kind ≡ 0 → (x : Ran) → x ≡ as_ran fine i true w → Made d counts s list₀ x t list
     unfolding run_moves
     stop z x a =
         let e = walks.at_end d counts s t w i k h v.walked m is z in
@@ -73,13 +80,13 @@ module _ (d : Bool) (counts s list₀ t : List ℕ) (w : List Bool) (list : List
       more = walks.more d counts s t w i k h v.walked m is z
 
       -- the room is used
-      pub full : i ≡ length list₀ / 2 → (x : Reached) → x ≡ as_reached i false w → Made d counts s list₀ x t list
+      pub full : i ≡ length list₀ / 2 → (x : Ran) → x ≡ as_ran fine i false w → Made d counts s list₀ x t list
       unfolding run_moves
       full l x a = all x false a (omega (arith, more)) (sym (ne_eqb i (left_along d counts s) (omega (arith, more))))
 
       -- one move more
-      pub on : (i ≡ length list₀ / 2 → ⊥) → (r : Exchanged) (u : List ℕ) → (r ≡ as_made m (length counts) w) × (u ≡ swap 0 t m.low m.high)
-          → Running d counts s list₀ u r.directions (set (set list (2 * i) r.low) (2 * i + 1) r.high) (i + 1)
+      pub on : (i ≡ length list₀ / 2 → ⊥) → (r : Moved) (u : List ℕ) → (r ≡ as_made m (length counts) w) × (u ≡ swap 0 t m.low m.high)
+          → Running d counts s list₀ u r.walker (set (set list (2 * i) r.low) (2 * i + 1) r.high) (i + 1)
       unfolding moves_from
       on l r u made =
           let step = walks.as_step d counts s t w i k h v.walked m is z r u made in

@@ -2,7 +2,7 @@
 use Prim.Native.Nat.{ℕ, zero, suc, ◌+◌, ◌*◌, ◌/◌, ◌≤◌, ◌<◌}
 use mathlib.Core.Path.{◌≡◌, refl, sym, ap, ◌∙◌}
 use mathlib.Core.Bool.{Bool, true, false}
-use mathlib.Core.List.{List, ◌++◌}
+use mathlib.Core.List.{List, [], ◌∷◌, ◌++◌}
 use native.Mathlib.Decide.{ℕ_discrete}
 use native.Mathlib.Omega.{arith}
 use borrow.Author.Tests.{eq-eqb, ne_eqb}
@@ -13,12 +13,13 @@ use borrow.Fn.Kinds.{Dens, ended_of}
 use denote.Triple.Clauses.{AtExit}
 use Rattle.rules.specs.Stock.{total, IsStock, IsStrip}
 use Rattle.rules.specs.Book.{book, place_in}
-use Rattle.rules.specs.Refusals.{No, fine, first_of}
+use Rattle.rules.specs.Refusals.{No, fine, first_of, check_nos}
 use Rattle.rules.specs.Outcome.{OneOutcome}
-use Rattle.rules.proofs.Refusals.{passed_fine, unless_refused}
+use Rattle.rules.proofs.Refusals.{passed_both, passed_fine, unless_refused}
+use Rattle.rules.proofs.Checks.{accepted_both}
 use Rattle.walker.specs.declared.Walker.{Walker}
-use Rattle.walker.specs.Walkers.{walker_for, walker_nos}
-use Rattle.walker.proofs.Differing.{accepted_strip, accepted_walker, accepted_walker_back, never_nine}
+use Rattle.walker.specs.Walkers.{walker_for, walker_no, walker_nos}
+use Rattle.walker.proofs.Differing.{accepted_walker, accepted_walker_back, never_nine}
 use Rattle.walking.specs.Answers.{shifted, ahead, along, left_along}
 use Rattle.walking.specs.Walks.{after, number_after, StayBelow}
 use Rattle.walking.proofs.Numbers.{shifted_none, shifted_further, ahead_further}
@@ -102,7 +103,7 @@ module _ (d : Bool) (counts s : List ℕ) (w : Walker) (list₀ : List ℕ) (r :
     list_is = is.2 ∙ rw none
 
     both : IsStock counts × IsStrip counts s
-    both = accepted_strip counts s w (sym no_is ∙ z)
+    both = accepted_both counts s (passed_both (check_nos counts s) (walker_no counts s w ∷ []) (sym no_is ∙ z)).0
 
     says : eqb m (left_along d counts s) ≡ eqb (left_along d counts u) 0
     says = let e = along_left d counts s both.1 m few.0 in same_test m (left_along d counts s) (left_along d counts u) 0 (λ f. omega arith) (λ f. omega (arith, few.0))

@@ -1,13 +1,13 @@
 // Run: the strip moves on, or back, until the lent list has no room left or the end of the book is reached.
 ghost use Rattle.std.specs.Prelude.{◌≡◌};
+ghost use Rattle.rules.specs.Refusals.{fine};
 ghost use Rattle.walking.specs.Checked.{Checked};
-ghost use Rattle.running.specs.Answers.{run_answer, run_strip, run_list};
-ghost use Rattle.running.specs.Made.{as_reached, Made};
+ghost use Rattle.running.specs.Answers.{as_ran, run_answer, run_strip, run_list};
+ghost use Rattle.running.specs.Made.{Made};
 
 use stock::Refusal;
 use walker::Walker;
 use walker::check::check_walker;
-use walking::carrying::carry_on;
 use walking::finding::find;
 use walking::stepping::make;
 
@@ -21,58 +21,45 @@ pub struct Ran {
     pub walker: Walker,
 }
 
-// How far a run came: the moves made, whether the end of the book is reached, and the directions of the strip as it then stands.
-#[derive(Drop)]
-struct Reached {
-    moves: u64,
-    ended: bool,
-    directions: [bool; 16],
-}
-
-// A run that stopped there.
-fn stopped(moves: usize, ended: bool, directions: [bool; 16]) -> Reached
-    ensures { result ≡ as_reached moves ended directions }
+// The answer of a run that was not refused.
+fn answered(moves: usize, ended: bool, walker: Walker) -> Ran
+    ensures { result ≡ as_ran fine moves ended walker }
 {
-    Reached {
+    Ran {
+        refusal: Refusal { no: 0, place: 0 },
         moves: moves as u64,
         ended,
-        directions,
+        walker,
     }
 }
 
 // Moves a checked strip on, or back, and lists the places, two a move. The next move is looked for before the room is, so that it is known whether there is one.
-fn run_checked(
-    stock: &[u16],
-    strip: &mut [u8],
-    directions: [bool; 16],
-    back: bool,
-    list: &mut [u8],
-) -> Reached
-    requires { Checked stock.now strip.old directions }
+fn run_checked(stock: &[u16], strip: &mut [u8], walker: Walker, back: bool, list: &mut [u8]) -> Ran
+    requires { Checked stock.now strip.old walker }
     ensures { Made back stock.now strip.old list.old result strip.new list.new }
 {
     let room = list.len() / 2;
-    let mut directions = directions;
+    let mut walker = walker;
     let mut moves: usize = 0;
     loop {
-        let m = find(stock, strip, directions, back);
+        let m = find(stock, strip, walker, back);
         let kind = m.kind;
         if kind == 0 {
-            return stopped(moves, true, directions);
+            return answered(moves, true, walker);
         }
         if moves == room {
-            return stopped(moves, false, directions);
+            return answered(moves, false, walker);
         }
-        let made = make(stock, strip, directions, m);
+        let made = make(stock, strip, walker, m);
         list[2 * moves] = made.low;
         list[2 * moves + 1] = made.high;
-        let next = made.directions;
-        directions = next;
+        let next = made.walker;
+        walker = next;
         moves += 1;
     }
 }
 
-// The input is checked once; after that the strip only moves. The walker's number is counted by all the moves at once, so that the loop has no work with it.
+// The input is checked once; after that the strip only moves.
 pub fn run(stock: &[u16], strip: &mut [u8], walker: Walker, back: bool, list: &mut [u8]) -> Ran
     ensures { (result ≡ run_answer back stock.now strip.old walker list.old) × (strip.new ≡ run_strip back stock.now strip.old walker list.old) × (list.new ≡ run_list back stock.now strip.old walker list.old) }
 {
@@ -86,15 +73,5 @@ pub fn run(stock: &[u16], strip: &mut [u8], walker: Walker, back: bool, list: &m
             walker,
         };
     }
-    let directions = walker.back;
-    let there = run_checked(stock, strip, directions, back, list);
-    let moves = there.moves;
-    let turned = there.directions;
-    let next = carry_on(walker, turned, back, moves);
-    Ran {
-        refusal,
-        moves,
-        ended: there.ended,
-        walker: next,
-    }
+    run_checked(stock, strip, walker, back, list)
 }

@@ -8,16 +8,19 @@ use lib.ListN.{length, get_or, take, drop, replicate}
 use lib.Seq.{length-take-le, take_at}
 use Rattle.rules.specs.Stock.{sum, IsStock, IsStrip}
 use Rattle.rules.specs.Book.{book, place_in}
+use Rattle.rules.specs.Refusals.{first_of, check_nos}
 use Rattle.rules.proofs.Refusals.{unless_passed}
-use Rattle.rules.proofs.Checks.{accepted_buffer_back}
+use Rattle.rules.proofs.Checks.{accepted_buffer_back, accepted_both_back}
 use Rattle.rules.proofs.Strips.{strip_sum}
 use Rattle.rules.proofs.Prefixes.{total_some}
 use Rattle.rules.proofs.Places.{book_only}
-use Rattle.directions.specs.Directions.{directions}
 use Rattle.counting.specs.Answers.{first_after}
+use Rattle.walker.specs.Walkers.{walker_for, all_forward}
+use Rattle.walker.specs.declared.open.Opened.{Opened}
+use Rattle.walker.specs.Answers.{open_answer}
 use Rattle.showing.specs.declared.Shown.{Shown}
 use Rattle.printed.specs.Output.{list_of}
-use Rattle.showing.specs.States.{directions_at, shown_at}
+use Rattle.showing.specs.States.{walker_at, shown_at}
 use Rattle.printed.proofs.Lines.{first_strip, first_number}
 use Rattle.showing.proofs.Showing.{shown_is}
 
@@ -26,11 +29,11 @@ drop_zeros zero m = let e : m - 0 ≡ m = omega arith in rw e
 drop_zeros (suc n) zero = let e : 0 - suc n ≡ 0 = omega arith in rw e
 drop_zeros (suc n) (suc m) = let e : suc m - suc n ≡ m - n = omega arith in rw e (drop_zeros n m)
 
--- the directions are those of the first strip
-directions_0 : (papers : Bool) (counts : List ℕ) → IsStock counts → directions_at papers counts 0 ≡ directions counts (get_or (book counts) 0 [])
-unfolding directions_at
-directions_0 false counts k = ap (directions counts) (first_strip counts false k)
-directions_0 true counts k = ap (directions counts) (first_strip counts true k)
+-- the walker is that of the first strip
+walker_0 : (papers : Bool) (counts : List ℕ) → IsStock counts → walker_at papers counts 0 ≡ walker_for counts (get_or (book counts) 0 [])
+unfolding walker_at
+walker_0 false counts k = ap (walker_for counts) (first_strip counts false k)
+walker_0 true counts k = ap (walker_for counts) (first_strip counts true k)
 
 module _ (counts : List ℕ) (k : IsStock counts) (n : ℕ) (is : n ≡ sum counts) where
   abbrev buffer : List ℕ
@@ -56,11 +59,11 @@ module _ (counts : List ℕ) (k : IsStock counts) (n : ℕ) (is : n ≡ sum coun
     pub part_0 : take n strip ≡ s
     part_0 = take_at s _ n (sym length_0)
 
-    pub checked_0 : IsStock counts × IsStrip counts (take n strip)
-    checked_0 = (k, rw part_0 own_0)
-
-    pub first_shown : (d : List Bool) → d ≡ directions counts (take n strip)
-        → (papers : Bool) → ◌≡◌ {A = Shown} record { strip = strip; blocks = n; number = 0; index = 0; directions = d } (shown_at papers counts 0)
-    first_shown d e papers =
-        shown_is papers counts s (drop n (replicate 64 0)) n 0 0 d (strip_0 ∙ sym (first_strip counts papers k)) length_0 (drop_zeros n 64)
-        (sym (ap (place_in (list_of papers counts)) strip_0 ∙ first_number counts papers)) (e ∙ ap (directions counts) (part_0 ∙ strip_0) ∙ sym (directions_0 papers counts k))
+    pub first_shown : (o : Opened) → o ≡ open_answer counts (take n strip)
+        → (papers : Bool) → ◌≡◌ {A = Shown} record { strip = strip; blocks = n; number = 0; index = 0; walker = o.walker } (shown_at papers counts 0)
+    unfolding open_answer
+    first_shown o e papers =
+        let w : o.walker ≡ walker_for counts s =
+        ap (λ (x : Opened). x.walker) e ∙ rw part_0 (unless_passed all_forward (walker_for counts s) (first_of (check_nos counts s)) (accepted_both_back counts s k own_0)) in
+        shown_is papers counts s (drop n (replicate 64 0)) n 0 0 o.walker (strip_0 ∙ sym (first_strip counts papers k)) length_0 (drop_zeros n 64)
+        (sym (ap (place_in (list_of papers counts)) strip_0 ∙ first_number counts papers)) (w ∙ ap (walker_for counts) strip_0 ∙ sym (walker_0 papers counts k))

@@ -17,9 +17,9 @@ use Rattle.endless.specs.declared.next_paper.Stepped.{Stepped}
 use Rattle.endless.specs.Answers.{paper_outcome, paper_steps, paper_after, next_paper_answer, next_paper_after}
 use Rattle.showing.specs.declared.Shown.{Shown}
 use Rattle.printed.specs.Output.{strips}
-use Rattle.showing.specs.States.{directions_at, nowhere, next_shown, Held}
+use Rattle.showing.specs.States.{walker_at, nowhere, next_shown, Held}
 use Rattle.printed.proofs.PaperStrips.{Next, paper_near, paper_own, last_paper, next_paper_lem}
-use Rattle.showing.proofs.Showing.{number_is, directions_are, some_shown, strip_is, next_last, shown_next}
+use Rattle.showing.proofs.Showing.{number_is, walker_is, some_shown, strip_is, next_last, shown_next}
 
 module _ (counts : List ℕ) (sh : Shown) (st : Held true counts sh) where
   abbrev t : List ℕ
@@ -77,9 +77,9 @@ module _ (counts : List ℕ) (sh : Shown) (st : Held true counts sh) where
             ∙ ap (λ (x : List ℕ). found_or stands_for_paper (later (dictionary counts) x) given x) same_strip
 
         pub found : r.outcome ≡ 1 → sh.index < 4095
-            → ◌≡◌ {A = Shown} record { strip = u ++ drop sh.blocks sh.strip; blocks = sh.blocks; number = sh.number + r.steps; index = sh.index + 1; directions = sh.directions } (next_shown true counts sh)
-        unfolding directions_at
+            → ◌≡◌ {A = Shown} record { strip = u ++ drop sh.blocks sh.strip; blocks = sh.blocks; number = sh.number + r.steps; index = sh.index + 1; walker = sh.walker } (next_shown true counts sh)
+        unfolding walker_at
         found o few =
             let n : Next counts sh.index (place_in (dictionary counts) s) u r.steps = rw (found_is, steps_are) (next_paper_lem counts sh.index st.within given as_many (omega arith) (sym outcome_is ∙ o)) in
-            shown_next true counts sh st u (sh.number + r.steps) sh.directions n.within (sym n.strip) (ap (λ (x : ℕ). x + r.steps) place ∙ sym n.place)
-            (directions_are true counts st.stock sh.index st.within sh st.is)
+            shown_next true counts sh st u (sh.number + r.steps) sh.walker n.within (sym n.strip) (ap (λ (x : ℕ). x + r.steps) place ∙ sym n.place)
+            (walker_is true counts st.stock sh.index st.within sh st.is)

@@ -14,17 +14,18 @@ use Rattle.rules.specs.Stock.{sum, IsStock}
 use Rattle.rules.specs.Book.{place_in}
 use Rattle.rules.proofs.Checks.{some_block}
 use Rattle.rules.proofs.Strips.{strip_sum}
+use Rattle.walker.specs.declared.Walker.{Walker}
 use Rattle.lines.specs.Text.{strip_line}
 use Rattle.lines.proofs.Lengths.{strip_length}
 use Rattle.showing.specs.declared.Shown.{Shown}
 use Rattle.printed.specs.Output.{list_of, strips, strip_lines}
-use Rattle.showing.specs.States.{directions_at, shown_at, nowhere, shown_if, next_shown, shown_text, lines_left, Held, Shows, Fits}
+use Rattle.showing.specs.States.{walker_at, shown_at, nowhere, shown_if, next_shown, shown_text, lines_left, Held, Shows, Fits}
 use Rattle.printed.proofs.Lines.{own, near, lines_many, line_at}
 
 -- a strip as it is held
-pub shown_is : (papers : Bool) (counts t zs : List ℕ) (n number i : ℕ) (w : List Bool)
-    → t ≡ get_or (strips papers counts) i [] → n ≡ length t → zs ≡ replicate (64 - n) 0 → number ≡ place_in (list_of papers counts) t → w ≡ directions_at papers counts i
-    → ◌≡◌ {A = Shown} record { strip = t ++ zs; blocks = n; number = number; index = i; directions = w } (shown_at papers counts i)
+pub shown_is : (papers : Bool) (counts t zs : List ℕ) (n number i : ℕ) (w : Walker)
+    → t ≡ get_or (strips papers counts) i [] → n ≡ length t → zs ≡ replicate (64 - n) 0 → number ≡ place_in (list_of papers counts) t → w ≡ walker_at papers counts i
+    → ◌≡◌ {A = Shown} record { strip = t ++ zs; blocks = n; number = number; index = i; walker = w } (shown_at papers counts i)
 unfolding shown_at
 shown_is papers counts t zs n number i w e f g h v = rw (v, h, g, f, e)
 
@@ -54,9 +55,9 @@ module _ (papers : Bool) (counts : List ℕ) (k : IsStock counts) (i : ℕ) (l :
     unfolding shown_at
     index_is = ap (λ (x : Shown). x.index) is
 
-    pub directions_are : sh.directions ≡ directions_at papers counts i
+    pub walker_is : sh.walker ≡ walker_at papers counts i
     unfolding shown_at
-    directions_are = ap (λ (x : Shown). x.directions) is
+    walker_is = ap (λ (x : Shown). x.walker) is
 
     pub some_shown : sh.blocks ≡ 0 → ⊥
     some_shown e = omega (arith, blocks_are, some)
@@ -131,9 +132,9 @@ module _ (papers : Bool) (counts : List ℕ) (sh : Shown) where
 
 -- the next strip as it is held, beside the zeros that stand behind the one that is shown
 module _ (papers : Bool) (counts : List ℕ) (sh : Shown) (st : Held papers counts sh) where
-  pub shown_next : (u : List ℕ) (number : ℕ) (w : List Bool) → sh.index + 1 < length (strips papers counts) → u ≡ get_or (strips papers counts) (sh.index + 1) []
-      → number ≡ place_in (list_of papers counts) u → w ≡ directions_at papers counts (sh.index + 1)
-      → ◌≡◌ {A = Shown} record { strip = u ++ drop sh.blocks sh.strip; blocks = sh.blocks; number = number; index = sh.index + 1; directions = w } (next_shown papers counts sh)
+  pub shown_next : (u : List ℕ) (number : ℕ) (w : Walker) → sh.index + 1 < length (strips papers counts) → u ≡ get_or (strips papers counts) (sh.index + 1) []
+      → number ≡ place_in (list_of papers counts) u → w ≡ walker_at papers counts (sh.index + 1)
+      → ◌≡◌ {A = Shown} record { strip = u ++ drop sh.blocks sh.strip; blocks = sh.blocks; number = number; index = sh.index + 1; walker = w } (next_shown papers counts sh)
   shown_next u number w h e f g =
       let n : sh.blocks ≡ length u =
       blocks_are papers counts st.stock sh.index st.within sh st.is ∙ size papers counts st.stock sh.index st.within

@@ -1,27 +1,28 @@
 -- The strip that is shown, and what the functions that show one promise. What the printer makes of it is proved by the lines that are left to print (`rest_first`,
 -- `rest_next` of `printing`), so nothing here is to be believed.
-use Rattle.std.specs.Prelude.{ℕ, ◌+◌, ◌-◌, ◌≤◌, ◌<◌, ◌≡◌, Bool, false, cond, ◌⊎◌, List, [], ◌++◌, eqb, ltb, length, get_or, take, drop, replicate}
+use Rattle.std.specs.Prelude.{ℕ, ◌+◌, ◌-◌, ◌≤◌, ◌<◌, ◌≡◌, Bool, cond, ◌⊎◌, List, [], ◌++◌, eqb, ltb, length, get_or, take, drop, replicate}
 use Rattle.rules.specs.Stock.{IsStock}
 use Rattle.rules.specs.Book.{place_in}
 use Rattle.rules.specs.Refusals.{pick}
-use Rattle.directions.specs.Directions.{directions}
+use Rattle.walker.specs.declared.Walker.{Walker}
+use Rattle.walker.specs.Walkers.{walker_for, all_forward}
 use Rattle.lines.specs.Text.{strip_line}
 use Rattle.showing.specs.declared.Shown.{Shown}
 use Rattle.printed.specs.Output.{list_of, strips, strip_lines}
 
--- the directions beside strip i of those that are printed. No directions lead through the papers, so there they stay those of the first
-unfoldable pub directions_at : Bool → List ℕ → ℕ → List Bool
-directions_at papers counts i = directions counts (get_or (strips papers counts) (pick papers 0 i) [])
+-- the walker beside strip i of those that are printed. No walker leads through the papers, so there it stays that of the first
+unfoldable pub walker_at : Bool → List ℕ → ℕ → Walker
+walker_at papers counts i = walker_for counts (get_or (strips papers counts) (pick papers 0 i) [])
 
 -- strip i
 unfoldable pub shown_at : Bool → List ℕ → ℕ → Shown
 shown_at papers counts i =
     let s = get_or (strips papers counts) i [] in
-    record { strip = s ++ replicate (64 - length s) 0; blocks = length s; number = place_in (list_of papers counts) s; index = i; directions = directions_at papers counts i }
+    record { strip = s ++ replicate (64 - length s) 0; blocks = length s; number = place_in (list_of papers counts) s; index = i; walker = walker_at papers counts i }
 
 -- none
 abbrev pub nowhere : Shown
-nowhere = record { strip = replicate 64 0; blocks = 0; number = 0; index = 0; directions = replicate 16 false }
+nowhere = record { strip = replicate 64 0; blocks = 0; number = 0; index = 0; walker = all_forward }
 
 -- strip i, where there is one
 unfoldable pub shown_if : Bool → List ℕ → ℕ → Shown

@@ -4,21 +4,21 @@ ghost use Rattle.rules.specs.Stock.{IsStock};
 ghost use Rattle.showing.specs.States.{shown_at, nowhere, next_shown, Held, Shows};
 
 use counting::first::first;
-use directions::directions_of;
 use endless::next_paper::next_paper;
 use stock::blocks;
+use walker::Walker;
+use walker::open::open;
 use walking::stepping::step;
 
-// A strip, the number of its blocks, its number in the book or in the dictionary, its index among those that are printed, and its directions. No blocks: no
-// strip is shown. The number is counted here, also in a book of 2^64 strips or more, so no walker is needed. The papers need no directions: theirs stay those
-// of the first strip.
+// A strip, the number of its blocks, its number in the book or in the dictionary, its index among those that are printed, and its walker. No blocks: no
+// strip is shown. The papers need no walker: theirs stays that of the first strip.
 #[derive(Drop)]
 pub struct Shown {
     pub strip: [u8; 64],
     pub blocks: usize,
     pub number: u64,
     pub index: u64,
-    pub directions: [bool; 16],
+    pub walker: Walker,
 }
 
 pub fn show_none() -> Shown
@@ -29,7 +29,7 @@ pub fn show_none() -> Shown
         blocks: 0,
         number: 0,
         index: 0,
-        directions: [false; 16],
+        walker: Walker { back: [false; 16] },
     }
 }
 
@@ -41,13 +41,14 @@ pub fn show_first(stock: &[u16]) -> Shown
     let n = blocks(stock);
     let mut strip: [u8; 64] = [0; 64];
     first(stock, &mut strip[..n]);
-    let directions = directions_of(stock, &strip[..n]);
+    let opened = open(stock, &strip[..n]);
+    let walker = opened.walker;
     Shown {
         strip,
         blocks: n,
         number: 0,
         index: 0,
-        directions,
+        walker,
     }
 }
 
@@ -60,20 +61,19 @@ fn next_in_book(stock: &[u16], shown: Shown) -> Shown
     let number = shown.number;
     let index = shown.index;
     let mut strip = shown.strip;
-    let directions = shown.directions;
-    let m = step(stock, &mut strip[..n], directions, false);
+    let m = step(stock, &mut strip[..n], shown.walker, false);
     let refusal = m.refusal;
     let no = refusal.no;
     if no != 0 {
         return show_none();
     }
-    let turned = m.directions;
+    let walker = m.walker;
     Shown {
         strip,
         blocks: n,
         number: number + 1,
         index: index + 1,
-        directions: turned,
+        walker,
     }
 }
 
@@ -93,13 +93,13 @@ fn next_in_papers(stock: &[u16], shown: Shown) -> Shown
     if outcome != 1 {
         return show_none();
     }
-    let directions = shown.directions;
+    let walker = shown.walker;
     Shown {
         strip,
         blocks: n,
         number: number + steps,
         index: index + 1,
-        directions,
+        walker,
     }
 }
 

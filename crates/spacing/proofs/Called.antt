@@ -1,9 +1,8 @@
 -- Proofs. The search called with any stock, strip and walker: refused by 1 to 6 or 10, or else as it ended on a copy of the strip.
 use Prim.Native.Nat.{ℕ}
 use mathlib.Core.Path.{◌≡◌, sym, ap, ◌∙◌}
-use mathlib.Core.Bool.{Bool, false}
+use mathlib.Core.Bool.{Bool}
 use mathlib.Core.List.{List}
-use lib.ListN.{length}
 use Rattle.rules.specs.Book.{book}
 use Rattle.rules.specs.Refusals.{fine, first_of}
 use Rattle.rules.proofs.Refusals.{unless_refused, passed_fine}
@@ -12,8 +11,6 @@ use Rattle.stock.specs.Refused.{refusal}
 use Rattle.stock.proofs.Tested.{passed, stopped}
 use Rattle.walker.specs.declared.Walker.{Walker}
 use Rattle.walker.specs.Walkers.{walker_for, walker_nos}
-use Rattle.walking.specs.Checked.{carried_on}
-use Rattle.walking.proofs.Called.{counted_walker}
 use Rattle.searching.specs.Searching.{later}
 use Rattle.searching.proofs.Theorems.{found_so, not_found_so}
 use Rattle.searching.proofs.Loops.{sought_kept}
@@ -56,11 +53,9 @@ module _ (endless : Bool) (counts s : List ℕ) (w : Walker) (given : ℕ) where
       not_found h =
           (answered w (rw (not_found_so (stands_apart endless) (later (book counts) s) given (λ o. h (v.sought.outcome_is ∙ o)))), sought_kept (stands_apart endless) (later (book counts) s) given s _ _ t v.sought h ∙ left)
 
-      -- one is found: it is written, and the number is counted on with the moves
-      pub found : length w.back ≡ 16 → e.outcome ≡ 1 → (x : List ℕ) → x ≡ t → (u : Walker) → u ≡ carried_on false w e.directions e.moves
-          → Answers (record { refusal = r; outcome = e.outcome; moves = e.moves; walker = u }) x
+      -- one is found, and written
+      pub found : e.outcome ≡ 1 → (x : List ℕ) → x ≡ t → Answers (record { refusal = r; outcome = e.outcome; moves = e.moves; walker = e.walker }) x
       unfolding apart_after apart_walker
-      found l o x f u u_is =
+      found o x f =
           let g = v.sought.strip_is o in
-          let own = u_is ∙ counted_walker counts s w r is l z v.walked ∙ ap (walker_for counts) g in
-          (answered u (rw (found_so (stands_apart endless) (later (book counts) s) given (sym v.sought.outcome_is ∙ o)) own), f ∙ g ∙ left)
+          (answered e.walker (rw (found_so (stands_apart endless) (later (book counts) s) given (sym v.sought.outcome_is ∙ o)) (v.walker ∙ ap (walker_for counts) g)), f ∙ g ∙ left)

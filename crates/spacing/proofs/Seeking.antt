@@ -11,7 +11,8 @@ use Rattle.rules.specs.Book.{book}
 use Rattle.rules.specs.Neighbours.{swap}
 use Rattle.rules.proofs.Checks.{some_blocks}
 use Rattle.rules.proofs.Strips.{move_of}
-use Rattle.walking.specs.declared.stepping.Exchanged.{Exchanged}
+use Rattle.walker.specs.declared.Walker.{Walker}
+use Rattle.walking.specs.declared.Moved.{Moved}
 use Rattle.walking.specs.declared.finding.Found.{Found}
 use Rattle.walking.specs.Checked.{Checked, found, as_made}
 use Rattle.walking.proofs.OneMove.{Makes}
@@ -26,14 +27,14 @@ use Rattle.spacing.specs.declared.seek.Ended.{Ended}
 use Rattle.spacing.specs.Seeking.{as_ended, Reached}
 use Rattle.spacing.proofs.Later.{later_left, later_onward}
 
--- i moves are made, to the strip t with the directions w; no place of t from `seen` on, counted from 0, is like the next
-pub record Seeking (endless : Bool) (counts s : List ℕ) (given : ℕ) (t : List ℕ) (w : List Bool) (i seen : ℕ) : Type 0 where
+-- i moves are made, to the strip t with the walker w; no place of t from `seen` on, counted from 0, is like the next
+pub record Seeking (endless : Bool) (counts s : List ℕ) (given : ℕ) (t : List ℕ) (w : Walker) (i seen : ℕ) : Type 0 where
   pub walked : walks.Walked false counts s t w i
   pub few : i ≤ given
   pub none : Fail (stands_apart endless) (later (book counts) s) i
   pub free : FreeFrom t seen
 
-pub start : (endless : Bool) (counts s : List ℕ) (given : ℕ) (w : List Bool) → Checked counts s w → Seeking endless counts s given s w 0 (length s - 1)
+pub start : (endless : Bool) (counts s : List ℕ) (given : ℕ) (w : Walker) → Checked counts s w → Seeking endless counts s given s w 0 (length s - 1)
 start endless counts s given w c = record {
   walked = walks.start false counts s w c;
   few = omega arith;
@@ -41,7 +42,7 @@ start endless counts s given w c = record {
   free = record { within = omega (arith, some_blocks counts s c.stock c.strip); free = λ k l m. absurd (omega arith) };
 }
 
-module _ (endless : Bool) (counts s : List ℕ) (given : ℕ) (t : List ℕ) (w : List Bool) (i seen : ℕ) (k : IsStock counts) (h : IsStrip counts s) (v : Seeking endless counts s given t w i seen) where
+module _ (endless : Bool) (counts s : List ℕ) (given : ℕ) (t : List ℕ) (w : Walker) (i seen : ℕ) (k : IsStock counts) (h : IsStrip counts s) (v : Seeking endless counts s given t w i seen) where
   abbrev more : List (List ℕ)
   more = later (book counts) s
 
@@ -57,7 +58,7 @@ module _ (endless : Bool) (counts s : List ℕ) (given : ℕ) (t : List ℕ) (w 
     at_end z r e = rw e record {
       sought = sought_none (stands_apart endless) more given s i v.none t
           (later_left counts s ∙ walks.at_end false counts s t w i k h v.walked m is z) v.few;
-      walked = v.walked;
+      walker = v.walked.walker;
     }
 
     module _ (z : m.kind ≡ 0 → ⊥) where
@@ -69,17 +70,17 @@ module _ (endless : Bool) (counts s : List ℕ) (given : ℕ) (t : List ℕ) (w 
 
       -- the given moves are made
       pub at_given : i ≡ given → (r : Ended) → r ≡ as_ended 3 i w → Reached endless counts s given r t
-      at_given f r e = rw e record { sought = sought_stopped (stands_apart endless) more given s i v.none t within f; walked = v.walked }
+      at_given f r e = rw e record { sought = sought_stopped (stands_apart endless) more given s i v.none t within f; walker = v.walked.walker }
 
       -- one move more
-      module _ (f : i ≡ given → ⊥) (r : Exchanged) (u : List ℕ) (made : (r ≡ as_made m (length counts) w) × (u ≡ swap 0 t m.low m.high)) where
-        on : walks.Walked false counts s u r.directions (i + 1)
+      module _ (f : i ≡ given → ⊥) (r : Moved) (u : List ℕ) (made : (r ≡ as_made m (length counts) w) × (u ≡ swap 0 t m.low m.high)) where
+        on : walks.Walked false counts s u r.walker (i + 1)
         on =
             let step = walks.as_step false counts s t w i k h v.walked m is z r u made in
             walks.on false counts s t w i k h v.walked r u (step.1, step.2) step.0
 
         pub next_length : length u ≡ length s
-        next_length = walks.same_length false counts s u r.directions (i + 1) k h on
+        next_length = walks.same_length false counts s u r.walker (i + 1) k h on
 
         -- behind both the place seen and the larger place that it changes, no place is like the next
         pub behind : (seen < length u) × (m.high < length u) × FreeBehind u seen m.high
@@ -90,8 +91,8 @@ module _ (endless : Bool) (counts s : List ℕ) (given : ℕ) (t : List ℕ) (w 
         u_is : u ≡ get_or more i []
         u_is = on.strip ∙ rw (add-one i) (sym (later_onward counts s i))
 
-        pub at_found : stands_apart endless u ≡ true → (q : Ended) → q ≡ as_ended 1 (i + 1) r.directions → Reached endless counts s given q u
-        at_found y q e = rw e record { sought = sought_found (stands_apart endless) more given s i v.none u within (omega (arith, v.few)) u_is y; walked = on }
+        pub at_found : stands_apart endless u ≡ true → (q : Ended) → q ≡ as_ended 1 (i + 1) r.walker → Reached endless counts s given q u
+        at_found y q e = rw e record { sought = sought_found (stands_apart endless) more given s i v.none u within (omega (arith, v.few)) u_is y; walker = on.walker }
 
-        pub at_next : (p : ℕ) → IsLast u p → stands_apart endless u ≡ false → Seeking endless counts s given u r.directions (i + 1) p
+        pub at_next : (p : ℕ) → IsLast u p → stands_apart endless u ≡ false → Seeking endless counts s given u r.walker (i + 1) p
         at_next p l n = record { walked = on; few = omega (arith, v.few); none = fail_on (stands_apart endless) more i v.none (rw (← u_is) n); free = l.behind }

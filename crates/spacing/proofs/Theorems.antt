@@ -2,19 +2,20 @@
 use Prim.Native.Nat.{ℕ}
 use mathlib.Core.Path.{◌≡◌, sym, ap, ◌∙◌}
 use mathlib.Core.Bool.{Bool}
-use mathlib.Core.List.{List}
+use mathlib.Core.List.{List, [], ◌∷◌}
 use lib.ListN.{length}
 use contract.Lifetimes.{Lfts}
 use borrow.Fn.Kinds.{Dens, ended_of}
 use denote.Triple.Clauses.{AtExit}
 use Rattle.rules.specs.Stock.{IsStock, IsStrip}
 use Rattle.rules.specs.Book.{book}
-use Rattle.rules.specs.Refusals.{No, first_of}
+use Rattle.rules.specs.Refusals.{No, first_of, check_nos}
 use Rattle.rules.specs.Outcome.{OneOutcome}
-use Rattle.rules.proofs.Refusals.{unless_refused, unless_passed}
+use Rattle.rules.proofs.Refusals.{passed_both, unless_refused, unless_passed}
+use Rattle.rules.proofs.Checks.{accepted_both}
 use Rattle.walker.specs.declared.Walker.{Walker}
-use Rattle.walker.specs.Walkers.{walker_for, walker_nos}
-use Rattle.walker.proofs.Differing.{accepted_strip, accepted_walker, accepted_walker_back}
+use Rattle.walker.specs.Walkers.{walker_for, walker_no, walker_nos}
+use Rattle.walker.proofs.Differing.{accepted_walker, accepted_walker_back}
 use Rattle.searching.specs.Searching.{later}
 use Rattle.searching.proofs.Theorems.{SearchRight, search_right, found_so, not_found_so}
 use Rattle.touching.specs.Apart.{stands_apart}
@@ -93,7 +94,7 @@ module _ (endless : Bool) (counts s : List ℕ) (w : Walker) (given : ℕ) (r : 
 
   right : NextApartRight endless counts s w given r after
   right = record {
-    accepts = λ z. accepted_strip counts s w (passed z);
+    accepts = λ z. accepted_both counts s (passed_both (check_nos counts s) (walker_no counts s w ∷ []) (passed z)).0;
     own_walker = λ l z. (accepted_walker counts s w l (passed z)).2;
     accepted = λ k h v. no_is ∙ ap (λ (r : No). r.0) (accepted_walker_back counts s w k h v);
     kept = stays;

@@ -8,7 +8,6 @@ use copying::copied;
 use stock::Refusal;
 use walker::Walker;
 use walker::check::check_walker;
-use walking::carrying::carry_on;
 
 // How the search ended: 1 found, 2 none, 3 stopped; the moves made, and the walker of the strip as it then stands.
 #[repr(C)]
@@ -20,20 +19,8 @@ pub struct Spaced {
     pub walker: Walker,
 }
 
-// An answer of the call.
-fn answered(refusal: Refusal, outcome: u8, moves: u64, walker: Walker) -> Spaced
-    ensures { result ≡ record { refusal = refusal; outcome = outcome; moves = moves; walker = walker } }
-{
-    Spaced {
-        refusal,
-        outcome,
-        moves,
-        walker,
-    }
-}
-
 // The strip becomes the next later one with no two of a kind touching, if that is found within the given moves. On an endless paper the last place
-// touches the first. The search turns directions alone; the walker's number is counted once, where a strip is found.
+// touches the first.
 pub fn next_apart(
     stock: &[u16],
     strip: &mut [u8],
@@ -46,19 +33,32 @@ pub fn next_apart(
     let refusal = check_walker(stock, strip, walker);
     let no = refusal.no;
     if no != 0 {
-        return answered(refusal, 0, 0, walker);
+        return Spaced {
+            refusal,
+            outcome: 0,
+            moves: 0,
+            walker,
+        };
     }
     let n = strip.len();
     let mut word = copied(strip);
-    let directions = walker.back;
-    let ended = seek(stock, &mut word[..n], directions, endless, given);
+    let ended = seek(stock, &mut word[..n], walker, endless, given);
     let outcome = ended.outcome;
     let moves = ended.moves;
     if outcome != 1 {
-        return answered(refusal, outcome, moves, walker);
+        return Spaced {
+            refusal,
+            outcome,
+            moves,
+            walker,
+        };
     }
     copy(&word[..n], strip);
-    let turned = ended.directions;
-    let there = carry_on(walker, turned, false, moves);
-    answered(refusal, outcome, moves, there)
+    let there = ended.walker;
+    Spaced {
+        refusal,
+        outcome,
+        moves,
+        walker: there,
+    }
 }

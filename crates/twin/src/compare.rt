@@ -6,16 +6,14 @@ use crate::moves::move_agrees;
 use crate::orders::compare_orders;
 use crate::pairs::compare_pair;
 use crate::replays::compare_few;
-use crate::rows::{last, strip_at};
+use crate::rows::{directions_at, last, strip_at};
 use crate::runs::{make_listed, run_agrees};
 use crate::search::compare_apart;
 use crate::single::{count_agrees, first_agrees, number_agrees, open_agrees, strip_agrees};
 use crate::spoiled::compare_sheets;
 use crate::tally;
 use crate::tally::{Tally, note};
-use crate::walkers::walker_of;
 use crate::ways::compare_way;
-use crate::wrong_walkers::compare_wrong;
 
 // The strip of a number by itself.
 fn compare_strip(tally: &mut Tally, stock: &[u16], book: &[u8], i: usize, work: &mut [u8]) {
@@ -25,7 +23,7 @@ fn compare_strip(tally: &mut Tally, stock: &[u16], book: &[u8], i: usize, work: 
     note(
         tally,
         tally::OPEN,
-        open_agrees(stock, blocks, walker_of(book, i)),
+        open_agrees(stock, blocks, directions_at(book, i)),
     );
 }
 
@@ -41,8 +39,6 @@ fn compare_moves(tally: &mut Tally, stock: &[u16], book: &[u8], i: usize, work: 
         tally::WALK_BACK,
         move_agrees(stock, book, i, true, work),
     );
-    let from = strip_at(book, i, work.len());
-    compare_wrong(tally, stock, from, walker_of(book, i), i, work);
 }
 
 // The strip of a number with the last strip, and with the one on from it where there is one.

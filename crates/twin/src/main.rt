@@ -6,8 +6,8 @@
 // itself, for panels and for endless papers. The strips that stood on the bar are written down one after the other, and looked for in the book. For stocks of
 // up to 4 blocks every strip is compared with every other, press sheets are made from the strips of the book, cut and spoiled, and compared with what is
 // rebuilt of them, sheets of both editions are made of moves and strides, right or wrong, and compared with what is read, written and rewritten, and every
-// list of up to four bytes from 0 to 5 is replayed, right or wrong. Every strip is lent with wrong walkers too. Of one book that no number of 64 bits counts,
-// the first strips and the last are written down, and its sheets and unnumbered walkers compared.
+// list of up to four bytes from 0 to 5 is replayed, right or wrong. Of one book that no number of 64 bits counts, the first strips and the last are written
+// down, and its sheets compared.
 mod books;
 mod compare;
 mod cuts;
@@ -37,11 +37,8 @@ mod stood;
 mod strode;
 mod tally;
 mod turns;
-mod unnumbered;
 mod vast;
-mod walkers;
 mod ways;
-mod wrong_walkers;
 
 ghost use Rattle.std.specs.Prelude.{◌≤◌};
 
@@ -51,7 +48,6 @@ use patterns::{Lists, bit};
 use shelf::{BYTES, Book, Shelf, cuts_of, rows_of};
 use stocks::{cut, first_counts};
 use tally::Tally;
-use unnumbered::compare_unnumbered;
 use vast::compare_vast;
 
 // A book with a strip of n blocks to work on.
@@ -137,6 +133,5 @@ fn main() {
     patterns::fill(&mut lists);
     compare_all(&lists, &mut tally);
     compare_vast(&mut tally);
-    compare_unnumbered(&mut tally);
     tally::print(&tally);
 }

@@ -1,10 +1,8 @@
 // Run compared with a book.
-use crate::rows::{copy, exchange_gives, last, least, same, strip_at};
-use crate::single::{is, opened_walker};
+use crate::rows::{copy, directions_at, exchange_gives, last, least, same, strip_at};
+use crate::single::{directed, is, opened_walker};
 use crate::tally::{LISTED, Tally, note};
-use crate::walkers::{same_walker, walker_of};
 use running::run::{Ran, run};
-use walker::Walker;
 
 // The moves that a list has room for, as far as the book goes.
 fn moves_of(list: &[u8], book: &[u8]) -> usize {
@@ -29,7 +27,7 @@ fn run_from(stock: &[u16], from: &[u8], work: &mut [u8], back: bool, list: &mut 
     run(stock, work, walker, back, list)
 }
 
-fn answer_agrees(ran: Ran, moves: usize, ends: bool, due: Walker) -> bool {
+fn answer_agrees(ran: Ran, moves: usize, ends: bool, directions: u8) -> bool {
     let refusal = ran.refusal;
     if ran.moves != moves as u64 {
         return false;
@@ -41,7 +39,7 @@ fn answer_agrees(ran: Ran, moves: usize, ends: bool, due: Walker) -> bool {
         return false;
     }
     let walker = ran.walker;
-    same_walker(walker, due)
+    directed(walker, directions)
 }
 
 // Run on from the first strip, or back from the last, with the room of a lent list.
@@ -60,7 +58,7 @@ pub fn run_agrees(
     if !same(work, strip_at(book, to, n)) {
         return false;
     }
-    answer_agrees(ran, moves, moves == last(book), walker_of(book, to))
+    answer_agrees(ran, moves, moves == last(book), directions_at(book, to))
 }
 
 // Makes a listed move, and compares the strip after it.

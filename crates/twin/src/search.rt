@@ -1,7 +1,7 @@
 // The calls that search compared with strips in rows: Next paper with those of a dictionary, Next apart with those of a book. Which call it is, and for
 // Next apart whether the strip is hung endless, is told by the tally's number for it.
 use crate::dictionary::{MOST, Order, put_rows};
-use crate::rows::{copy, front, last, same, strip_at};
+use crate::rows::{copy, directions_at, front, last, same, strip_at};
 use crate::sought::{
     Marks, Outcome, Start, answer_agrees, due, given_steps, marked_from, put_mark, steps, ways,
 };
@@ -9,9 +9,7 @@ use crate::spaced::{apart_agrees, is_apart};
 use crate::tally;
 use crate::tally::{Tally, note};
 use crate::turns::stands;
-use crate::walkers::walker_of;
 use endless::next_paper::next_paper;
-use walker::Walker;
 
 // Whether a call looks for a strip: the smallest of its turns, or one without equal neighbours.
 fn is_sought(call: usize, strip: &[u8]) -> bool {
@@ -36,20 +34,20 @@ fn paper_agrees(stock: &[u16], work: &mut [u8], given: u64, due: Outcome) -> boo
     answer_agrees(refusal, stepped.outcome, stepped.steps, due)
 }
 
-// A call on a lent strip, with what is to come of it, and for Next apart the walker of the strip that it is to leave.
+// A call on a lent strip, with what is to come of it, and the directions of the strip that it is to leave.
 fn call_agrees(
     call: usize,
     stock: &[u16],
     work: &mut [u8],
     given: u64,
     due: Outcome,
-    there: Walker,
+    directions: u8,
 ) -> bool {
     if call == tally::NEXT_PAPER {
         return paper_agrees(stock, work, given, due);
     }
     let endless = call == tally::APART_ENDLESS;
-    apart_agrees(stock, work, endless, given, due, there)
+    apart_agrees(stock, work, endless, given, due, directions)
 }
 
 fn search_agrees(
@@ -63,8 +61,8 @@ fn search_agrees(
     let n = work.len();
     copy(work, strip_at(rows, start.index, n));
     let due = due(start, given);
-    let there = walker_of(rows, due.index);
-    if !call_agrees(call, stock, work, given, due, there) {
+    let directions = directions_at(rows, due.index);
+    if !call_agrees(call, stock, work, given, due, directions) {
         return false;
     }
     same(work, strip_at(rows, due.index, n))

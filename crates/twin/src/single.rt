@@ -1,6 +1,6 @@
 // The calls on one strip, or none, compared with a book: Count, First, Number, Strip, Open.
+use crate::patterns::has;
 use crate::rows::same;
-use crate::walkers::same_walker;
 use counting::count::count;
 use counting::first::first;
 use numbering::number::number;
@@ -51,14 +51,26 @@ pub fn strip_agrees(stock: &[u16], blocks: &[u8], i: usize, work: &mut [u8]) -> 
     same(work, blocks)
 }
 
-pub fn open_agrees(stock: &[u16], blocks: &[u8], due: Walker) -> bool {
+// Whether a walker has the directions of a strip.
+pub fn directed(walker: Walker, directions: u8) -> bool {
+    let mut j: usize = 0;
+    while j < 16 {
+        if walker.back[j] != has(directions, j) {
+            return false;
+        }
+        j += 1;
+    }
+    true
+}
+
+pub fn open_agrees(stock: &[u16], blocks: &[u8], directions: u8) -> bool {
     let opened = open(stock, blocks);
     let refusal = opened.refusal;
     if !is(refusal, 0) {
         return false;
     }
     let walker = opened.walker;
-    same_walker(walker, due)
+    directed(walker, directions)
 }
 
 // The walker that Open gives.

@@ -1,10 +1,8 @@
 // Next apart compared with what is to come of it: it looks for a strip without equal neighbours, on a panel or hung endless.
 use crate::rows::block;
-use crate::single::opened_walker;
+use crate::single::{directed, opened_walker};
 use crate::sought::{Outcome, answer_agrees};
-use crate::walkers::same_walker;
 use spacing::next_apart::next_apart;
-use walker::Walker;
 
 // The kind at an index from 1 on, as the right neighbour of the place before it. Behind the last place stands the first where the strip is hung endless, and
 // else none: 0 is no kind.
@@ -30,20 +28,20 @@ pub fn is_apart(strip: &[u8], endless: bool) -> bool {
     true
 }
 
-// Next apart on a lent strip with the walker that Open gives, and the walker of the strip that it is to leave. Where none is found that is the lent one, so
-// the walker is to be the lent one too.
+// Next apart on a lent strip with the walker that Open gives, and the directions of the strip that it is to leave. Where none is found that is the lent one,
+// so the walker is to be the lent one too.
 pub fn apart_agrees(
     stock: &[u16],
     work: &mut [u8],
     endless: bool,
     given: u64,
     due: Outcome,
-    there: Walker,
+    directions: u8,
 ) -> bool {
     let lent = opened_walker(stock, work);
     let spaced = next_apart(stock, work, lent, endless, given);
     let walker = spaced.walker;
-    if !same_walker(walker, there) {
+    if !directed(walker, directions) {
         return false;
     }
     let refusal = spaced.refusal;

@@ -96,14 +96,6 @@ pub const APART_PANEL: usize = 44;
 
 pub const APART_ENDLESS: usize = 45;
 
-pub const WALK_NUMBER: usize = 46;
-
-pub const WALK_DIRECTION: usize = 47;
-
-pub const OPEN_UNNUMBERED: usize = 48;
-
-pub const WALK_UNNUMBERED: usize = 49;
-
 fn add_one(tally: &mut Tally, i: usize) {
     if i < 128 {
         let seen = tally[i];
@@ -144,15 +136,11 @@ fn print_single(tally: &Tally) {
     line(b"Cuts that Number reports: ", tally, CUTS);
     line(b"Strip: ", tally, STRIP);
     line(b"Open: ", tally, OPEN);
-    line(b"Open, unnumbered: ", tally, OPEN_UNNUMBERED);
 }
 
 fn print_moves(tally: &Tally) {
     line(b"Walk on: ", tally, WALK_ON);
     line(b"Walk back: ", tally, WALK_BACK);
-    line(b"Walk, unnumbered: ", tally, WALK_UNNUMBERED);
-    line(b"Walk, refused for the number: ", tally, WALK_NUMBER);
-    line(b"Walk, refused for a direction: ", tally, WALK_DIRECTION);
     line(b"Run: ", tally, RUN);
     line(b"Moves that Run lists: ", tally, LISTED);
 }

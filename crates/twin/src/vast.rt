@@ -53,7 +53,7 @@ fn block_of(ends: bool, moves: usize, i: usize) -> u8 {
 }
 
 // The last strip, or that so many moves on from the first.
-pub fn strip_of(ends: bool, moves: usize) -> [u8; 64] {
+fn strip_of(ends: bool, moves: usize) -> [u8; 64] {
     let mut strip: [u8; 64] = [0; 64];
     let mut i: usize = 0;
     while i < 64 {

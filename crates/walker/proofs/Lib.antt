@@ -1,6 +1,6 @@
 -- Proofs: nobody needs to read these to know what holds.
-pub mod Carrying
+pub mod ByKind
+mod Building
 pub mod Differing
+pub mod Turns
 pub mod Theorems
-pub mod Numbers
-pub mod Marked

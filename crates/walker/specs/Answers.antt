@@ -6,7 +6,7 @@ use Rattle.walker.specs.declared.Walker.{Walker}
 use Rattle.walker.specs.declared.open.Opened.{Opened}
 use Rattle.walker.specs.Walkers.{walker_for, all_forward}
 
--- ---- Open: the walker of the strip; refusals 1 to 6, and then all directions forward and unnumbered
+-- ---- Open: the walker of the strip; refusals 1 to 6, and then all directions forward
 
 abbrev pub as_opened : No → Walker → Opened
 as_opened r w = record { refusal = refusal r; walker = w }

@@ -1,28 +1,27 @@
--- TO BE BELIEVED. The walker of a strip, document 01 with P10 of document 02: its directions and its number; and refusal 10.
-use Rattle.std.specs.Prelude.{ℕ, suc, ◌^◌, Bool, true, false, not, ◌&&◌, List, [], ◌∷◌, ◌++◌, eqb, ltb, replicate}
-use Rattle.rules.specs.Stock.{total}
-use Rattle.rules.specs.Book.{book, place_in}
-use Rattle.rules.specs.Refusals.{No, when, at_place, pick, check_nos}
-use Rattle.directions.specs.Directions.{directions}
+-- TO BE BELIEVED. Document 01: the walker of a strip, and refusal 10.
+use Rattle.std.specs.Prelude.{ℕ, suc, Bool, true, false, not, ◌&&◌, List, [], ◌∷◌, ◌++◌, map, leb, length, replicate}
+use Rattle.rules.specs.Book.{backward}
+use Rattle.rules.specs.Refusals.{No, at_place, pick, check_nos}
 use Rattle.walker.specs.declared.Walker.{Walker}
 
--- whether the walkers of a stock's strips are numbered: unless T is 2^64 or more
-unfoldable pub is_numbered : List ℕ → Bool
-is_numbered counts = ltb (total counts) (2 ^ 64)
+abbrev pub kinds : List ℕ
+kinds = 1 ∷ 2 ∷ 3 ∷ 4 ∷ 5 ∷ 6 ∷ 7 ∷ 8 ∷ 9 ∷ 10 ∷ 11 ∷ 12 ∷ 13 ∷ 14 ∷ 15 ∷ 16 ∷ []
 
--- the number that the walker of a strip carries: the strip's place in the book; 0 where it is unnumbered, so that unnumbered has one form
-unfoldable pub carried : List ℕ → List ℕ → ℕ
-carried counts s = pick (is_numbered counts) (place_in (book counts) s) 0
+-- the direction of each of sixteen kinds in a strip, true for backward: kinds that the stock has not run forward, and so does kind 1 (`kind_one_forward`,
+-- proved). A kind without blocks has a direction as the others have
+unfoldable pub directions : List ℕ → List ℕ → List Bool
+directions counts s = map (λ j. leb j (length counts) && backward counts j s) kinds
 
 -- the walker that Open gives for a strip
 unfoldable pub walker_for : List ℕ → List ℕ → Walker
-walker_for counts s = record { back = directions counts s; numbered = is_numbered counts; number = carried counts s }
+unfolding directions
+walker_for counts s = record { back = directions counts s }
 
--- all directions forward, and unnumbered
+-- all directions forward
 abbrev pub all_forward : Walker
-all_forward = record { back = replicate 16 false; numbered = false; number = 0 }
+all_forward = record { back = replicate 16 false }
 
--- whether two flags, of a direction or of a number, are the same
+-- whether two directions are the same
 abbrev pub alike : Bool → Bool → Bool
 alike false b = not b
 alike true b = b
@@ -33,14 +32,10 @@ differing_from j [] e = 0
 differing_from j (b ∷ d) [] = 0
 differing_from j (b ∷ d) (c ∷ e) = pick (alike b c) (differing_from (suc j) d e) j
 
--- 10: a direction is not that which Open gives for this strip; the smallest wrong kind
-unfoldable pub direction_no : List ℕ → List ℕ → Walker → No
-direction_no counts s w = at_place 10 (differing_from 1 w.back (directions counts s))
+-- 10: the walker is not what Open gives for this strip; the smallest wrong kind
+unfoldable pub walker_no : List ℕ → List ℕ → Walker → No
+walker_no counts s w = at_place 10 (differing_from 1 w.back (walker_for counts s).back)
 
--- 10 again: it is numbered where Open's walker is not, or not where that is, or has another number; place 0
-unfoldable pub carried_no : List ℕ → List ℕ → Walker → No
-carried_no counts s w = when 10 (not (alike w.numbered (is_numbered counts) && eqb w.number (carried counts s)))
-
--- the refusals of a stock, a strip and a walker: 1 to 6, then 10 for the directions, then 10 for the number
+-- the refusals of a stock, a strip and a walker: 1 to 6, then 10
 abbrev pub walker_nos : List ℕ → List ℕ → Walker → List No
-walker_nos counts s w = check_nos counts s ++ (direction_no counts s w ∷ carried_no counts s w ∷ [])
+walker_nos counts s w = check_nos counts s ++ (walker_no counts s w ∷ [])

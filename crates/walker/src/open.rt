@@ -3,7 +3,7 @@ ghost use Rattle.std.specs.Prelude.{◌≡◌};
 ghost use Rattle.walker.specs.Answers.{open_answer};
 
 use crate::Walker;
-use crate::whole::walker_of;
+use crate::directions::walker_of;
 use stock::{Refusal, check_strip};
 
 // What Open answers.
@@ -14,18 +14,14 @@ pub struct Opened {
     pub walker: Walker,
 }
 
-// The walker of a strip; refused, all directions forward and unnumbered.
+// The walker of a strip; refused, all directions forward.
 pub fn open(stock: &[u16], strip: &[u8]) -> Opened
     ensures { result ≡ open_answer stock.now strip.now }
 {
     let checked = check_strip(stock, strip);
     let no = checked.no;
     if no != 0 {
-        let forward = Walker {
-            back: [false; 16],
-            numbered: false,
-            number: 0,
-        };
+        let forward = Walker { back: [false; 16] };
         return Opened {
             refusal: checked,
             walker: forward,

@@ -6,7 +6,6 @@ pub mod OneMove
 pub mod Along
 pub mod Stepped
 pub mod Walked
-pub mod Carried
 pub mod Called
 pub mod Right
 pub mod Theorems

@@ -1,4 +1,4 @@
--- Proofs. One turn of finding the move, in the terms of the code: j kinds are left, kind j's direction is read, and its own step is tested.
+-- Proofs. One turn of finding the move, in the terms of the code: j kinds are left, kind j's direction is read from the walker, and its own step is tested.
 use Prim.Native.Nat.{ℕ, zero, suc, ◌+◌, ◌-◌, ◌≤◌, ◌<◌}
 use mathlib.Core.Path.{◌≡◌, refl, ap, ◌∙◌}
 use mathlib.Core.Bool.{Bool, true, false}
@@ -14,7 +14,8 @@ use Rattle.rules.proofs.Index.{rests}
 use Rattle.rules.proofs.Descent.{Descent, move_inside, others, fits, short, found as kind-moves, past_front, past_back}
 use Rattle.moves.specs.declared.Step.{Step}
 use Rattle.moves.specs.Steps.{step, step_of}
-use Rattle.directions.proofs.ByKind.{directions_to_lem, to_at}
+use Rattle.walker.specs.declared.Walker.{Walker}
+use Rattle.walker.proofs.ByKind.{walker_to_lem, to_at}
 use Rattle.walking.specs.Checked.{Checked, found}
 
 -- a step that was found, and one that was not
@@ -26,11 +27,11 @@ step_none : (o : Option (ℕ × ℕ)) (m : Step) → m ≡ step o → m.found �
 step_none none m e f = refl
 step_none (some pq) m e f = let z : ◌≡◌ {A = ℕ} 0 1 = cc (ap (λ (m : Step). m.found) e) in absurd (omega arith)
 
--- the direction of a kind
-direction_at : (counts s : List ℕ) (w : List Bool) → Checked counts s w → (i : ℕ) → i < length counts → get_or w i false ≡ backward counts (suc i) s
+-- the direction that a walker holds for a kind
+direction_at : (counts s : List ℕ) (w : Walker) → Checked counts s w → (i : ℕ) → i < length counts → get_or w.back i false ≡ backward counts (suc i) s
 direction_at counts s w v i l =
     let few = v.stock.few in
-    rw (v.directed, directions_to_lem counts s) (rw (le-leb (suc i) (length counts) l) at (to_at counts s (length counts) i (omega arith)))
+    rw (v.walker, walker_to_lem counts s) (rw (le-leb (suc i) (length counts) l) at (to_at counts s (length counts) i (omega arith)))
 
 -- i kinds are below kind j, which steps on (f false) or back (f true) in the list of its patterns
 pub record Turn (back : Bool) (counts s : List ℕ) (f : Bool) (j i lo hi : ℕ) : Type 0 where
@@ -42,8 +43,8 @@ pub record Turn (back : Bool) (counts s : List ℕ) (f : Bool) (j i lo hi : ℕ)
   pub past_front : (m : Step) → m ≡ step_of f j (take (hi - lo) (drop lo s)) → m.found ≡ false → f ≡ false → Descent back counts s i (lo + get_or counts i 0) hi
   pub past_back : (m : Step) → m ≡ step_of f j (take (hi - lo) (drop lo s)) → m.found ≡ false → f ≡ true → Descent back counts s i lo (hi - get_or counts i 0)
 
-pub turn : (back : Bool) (counts s : List ℕ) (w : List Bool) → Checked counts s w → (j lo hi : ℕ) → 0 < j → Descent back counts s j lo hi
-    → (f : Bool) → f ≡ flip (get_or w (j - 1) false) back → Turn back counts s f j (j - 1) lo hi
+pub turn : (back : Bool) (counts s : List ℕ) (w : Walker) → Checked counts s w → (j lo hi : ℕ) → 0 < j → Descent back counts s j lo hi
+    → (f : Bool) → f ≡ flip (get_or w.back (j - 1) false) back → Turn back counts s f j (j - 1) lo hi
 turn back counts s w v zero lo hi p h f is = absurd (omega arith)
 turn back counts s w v (suc i) lo hi p h f is =
     let l : i < length counts = omega (arith, h.kinds) in

@@ -13,12 +13,13 @@ use Rattle.rules.proofs.Exchange.{exchanged}
 use Rattle.rules.proofs.Walk.{Move}
 use Rattle.rules.proofs.Strips.{move_of, strip_fits}
 use Rattle.rules.proofs.Neighbours.{swapped_places, swapped_neighbours}
-use Rattle.directions.specs.Directions.{directions}
-use Rattle.directions.specs.Turned.{above_turned}
-use Rattle.directions.proofs.Turns.{move_turns}
+use Rattle.walker.specs.declared.Walker.{Walker}
+use Rattle.walker.specs.Walkers.{walker_for}
+use Rattle.walker.specs.Turned.{above_turned}
+use Rattle.walker.proofs.Turns.{move_turns}
 use Rattle.walking.specs.declared.finding.Found.{Found}
-use Rattle.walking.specs.Answers.{beside, end_no}
-use Rattle.walking.specs.Checked.{Checked, found, as_exchanged, as_made, step_answer, step_strip}
+use Rattle.walking.specs.Answers.{beside, end_no, as_moved}
+use Rattle.walking.specs.Checked.{Checked, found, as_made, step_answer, step_strip}
 use Rattle.walking.proofs.Beside.{Outcome, outcome}
 
 -- the move of kind j that exchanges places low and high, from 0, and what it leads to
@@ -32,7 +33,7 @@ pub record Makes (d : Bool) (counts s : List ℕ) (j low high : ℕ) : Type 0 wh
   pub exchanged : Neighbours s (beside d counts s)
   pub strip : swap 0 s low high ≡ beside d counts s
   pub shown : places s (beside d counts s) ≡ (low + 1) ∷ (high + 1) ∷ []
-  pub directed : above_turned j (length counts) (directions counts s) ≡ directions counts (beside d counts s)
+  pub walker : above_turned j (length counts) (walker_for counts s) ≡ walker_for counts (beside d counts s)
 
 module _ (d : Bool) (counts s : List ℕ) (h : IsStrip counts s) where
   makes : (o : Option Move) (m : Move) → o ≡ some m → Outcome d counts s o → Makes d counts s (length counts - m.skip) m.p m.q
@@ -51,7 +52,7 @@ module _ (d : Bool) (counts s : List ℕ) (h : IsStrip counts s) where
         exchanged = swapped_neighbours l.kind l.move.p l.move.q s (beside d counts s) l.swapped;
         strip = sym x.swapped;
         shown = swapped_places l.kind l.move.p l.move.q s (beside d counts s) l.swapped;
-        directed = sym (move_turns counts s (beside d counts s) h own (some o) l);
+        walker = sym (move_turns counts s (beside d counts s) h own (some o) l);
       } in
       rw is at (rw j at t)
 
@@ -80,18 +81,18 @@ module _ (d : Bool) (counts s : List ℕ) (h : IsStrip counts s) where
     found_some = tells_some (move_of d counts s) m is (outcome counts s h d)
 
 -- a move that was found can be made: its places stand in the strip, which has at most 64 blocks
-pub can_be_made : {d : Bool} {counts s : List ℕ} {w : List Bool} {j low high : ℕ} → Checked counts s w → Makes d counts s j low high
+pub can_be_made : {d : Bool} {counts s : List ℕ} {w : Walker} {j low high : ℕ} → Checked counts s w → Makes d counts s j low high
     → (j ≤ length counts) × (length counts ≤ 16) × (low < length s) × (high < length s) × (length s ≤ 64)
 can_be_made {d} {counts} {s} c m = (m.kinds, c.stock.few, omega (arith, m.order, m.inside), m.inside, strip_fits counts s c.stock c.strip)
 
 -- ---- what the step answers
 
-module _ (d : Bool) (counts s : List ℕ) (w : List Bool) where
-  pub stays : end_no d counts s ≡ (9, 0) → (as_exchanged (9, 0) [] w ≡ step_answer d counts s w) × (s ≡ step_strip d counts s)
+module _ (d : Bool) (counts s : List ℕ) (w : Walker) where
+  pub stays : end_no d counts s ≡ (9, 0) → (as_moved (9, 0) [] w ≡ step_answer d counts s w) × (s ≡ step_strip d counts s)
   unfolding step_answer step_strip
   stays e = rw e (refl, refl)
 
   pub moves : Checked counts s w → (m : Found) → Makes d counts s m.kind m.low m.high
       → (as_made m (length counts) w ≡ step_answer d counts s w) × (swap 0 s m.low m.high ≡ step_strip d counts s)
   unfolding step_answer step_strip
-  moves c m k = rw (k.allowed, k.shown, c.directed) (ap (as_exchanged fine ((m.low + 1) ∷ (m.high + 1) ∷ [])) k.directed, k.strip)
+  moves c m k = rw (k.allowed, k.shown, c.walker) (ap (as_moved fine ((m.low + 1) ∷ (m.high + 1) ∷ [])) k.walker, k.strip)

@@ -9,12 +9,12 @@ use lib.ListN.{length, get_or}
 use Rattle.rules.specs.Stock.{IsStock, IsStrip}
 use Rattle.rules.specs.Book.{book, place_in}
 use Rattle.rules.specs.Neighbours.{Neighbours, places}
-use Rattle.rules.specs.Refusals.{No, fine, first_of}
+use Rattle.rules.specs.Refusals.{No, fine, first_of, check_nos}
 use Rattle.rules.proofs.Refusals.{passed_both, passed_fine, unless_refused}
-use Rattle.rules.proofs.Checks.{passed_head}
+use Rattle.rules.proofs.Checks.{passed_head, accepted_both}
 use Rattle.walker.specs.declared.Walker.{Walker}
-use Rattle.walker.specs.Walkers.{walker_for, walker_nos}
-use Rattle.walker.proofs.Differing.{accepted_strip, accepted_walker, accepted_walker_back, never_nine}
+use Rattle.walker.specs.Walkers.{walker_for, walker_no, walker_nos}
+use Rattle.walker.proofs.Differing.{walker_passed, accepted_walker_back, never_nine}
 use Rattle.walking.specs.declared.Moved.{Moved}
 use Rattle.walking.specs.Answers.{shifted, left_along, beside, end_no, as_moved, move_nos, move_answer, move_strip}
 use Rattle.walking.proofs.OneMove.{made}
@@ -25,8 +25,7 @@ use Rattle.walking.proofs.Called.{before_nine, at_nine}
 -- it refuses no more and no less than the table says, and by 9 exactly where no strip is left; accepted, the strip is the one beside, one exchange away, the
 -- places are those of the exchange and the walker is that of the strip; refused, it gives 0, 0 and the walker that was lent, and leaves the strip
 pub record MoveRight (d : Bool) (counts s : List ℕ) (w : Walker) (r : Moved) (t : List ℕ) : Type 0 where
-  pub accepts : r.refusal.no ≡ 0 → IsStock counts × IsStrip counts s × (0 < left_along d counts s)
-  pub own_walker : length w.back ≡ 16 → r.refusal.no ≡ 0 → w ≡ walker_for counts s
+  pub accepts : length w.back ≡ 16 → r.refusal.no ≡ 0 → IsStock counts × IsStrip counts s × (w ≡ walker_for counts s) × (0 < left_along d counts s)
   pub accepted : IsStock counts → IsStrip counts s → w ≡ walker_for counts s → 0 < left_along d counts s → r.refusal.no ≡ 0
   pub ended : IsStock counts → IsStrip counts s → w ≡ walker_for counts s → left_along d counts s ≡ 0 → r.refusal.no ≡ 9
   pub ends : r.refusal.no ≡ 9 → IsStock counts × IsStrip counts s × (left_along d counts s ≡ 0)
@@ -38,11 +37,12 @@ pub record MoveRight (d : Bool) (counts s : List ℕ) (w : Walker) (r : Moved) (
 
 module _ (d : Bool) (counts s : List ℕ) (w : Walker) where
   -- which rows are passed where all are
-  rows : (first_of (move_nos d counts s w)).0 ≡ 0 → ((first_of (walker_nos counts s w)).0 ≡ 0) × ((end_no d counts s).0 ≡ 0)
+  rows : (first_of (move_nos d counts s w)).0 ≡ 0 → (IsStock counts × IsStrip counts s) × ((walker_no counts s w).0 ≡ 0) × ((end_no d counts s).0 ≡ 0)
   unfolding move_nos
   rows e =
-      let p = passed_both (walker_nos counts s w) (end_no d counts s ∷ []) e in
-      (p.0, (passed_head (end_no d counts s) [] p.1).0)
+      let p = passed_both (check_nos counts s) (walker_no counts s w ∷ end_no d counts s ∷ []) e in
+      let q = passed_head (walker_no counts s w) (end_no d counts s ∷ []) p.1 in
+      (accepted_both counts s p.0, q.0, (passed_head (end_no d counts s) [] q.1).0)
 
   -- of an accepted stock, a strip of it and its walker, 9 decides
   pub nine_decides : IsStock counts → IsStrip counts s → w ≡ walker_for counts s → first_of (move_nos d counts s w) ≡ end_no d counts s
@@ -51,7 +51,7 @@ module _ (d : Bool) (counts s : List ℕ) (w : Walker) where
   only_nine : (first_of (move_nos d counts s w)).0 ≡ 9 → IsStock counts × IsStrip counts s × (left_along d counts s ≡ 0)
   only_nine e = elim (ℕ_discrete (first_of (walker_nos counts s w)).0 0) [
     | yes z ↦
-        let b = accepted_strip counts s w z in
+        let b = accepted_both counts s (passed_both (check_nos counts s) (walker_no counts s w ∷ []) z).0 in
         elim (ℕ_discrete (left_along d counts s) 0) [
           | yes l ↦ (b.0, b.1, l)
           | no l ↦ absurd (omega (arith, rw (at_nine d counts s w z, left_allowed d counts s (omega arith)) at e))
@@ -70,10 +70,10 @@ module _ (d : Bool) (counts s : List ℕ) (w : Walker) where
       none = passed_fine (move_nos d counts s w) (sym no_is ∙ z)
 
       own : IsStrip counts s
-      own = (accepted_strip counts s w (rows (sym no_is ∙ z)).0).1
+      own = (rows (sym no_is ∙ z)).0.1
 
       has : 0 < left_along d counts s
-      has = some_left d counts s (end_none counts s d (rows (sym no_is ∙ z)).1)
+      has = some_left d counts s (end_none counts s d (rows (sym no_is ∙ z)).2)
 
       strip_is : t ≡ beside d counts s
       unfolding move_strip
@@ -99,8 +99,7 @@ module _ (d : Bool) (counts s : List ℕ) (w : Walker) where
 
     pub right : MoveRight d counts s w r t
     right = record {
-      accepts = λ z. ((accepted_strip counts s w (rows (sym no_is ∙ z)).0).0, own z, has z);
-      own_walker = λ l z. (accepted_walker counts s w l (rows (sym no_is ∙ z)).0).2;
+      accepts = λ l z. let p = rows (sym no_is ∙ z) in (p.0.0, p.0.1, walker_passed counts s w l p.1, has z);
       accepted = λ k h v l. no_is ∙ ap (λ (r : No). r.0) (nine_decides k h v ∙ left_allowed d counts s l);
       ended = λ k h v l. no_is ∙ ap (λ (r : No). r.0) (nine_decides k h v ∙ left_nine d counts s l);
       ends = λ e. only_nine (sym no_is ∙ e);

@@ -1,4 +1,4 @@
--- Proofs. What a step answers, tested by its refusal: what the caller then knows of the strip, the places and the directions.
+-- Proofs. What a step answers, tested by its refusal: what the caller then knows of the strip, the places and the walker.
 use Prim.Native.Nat.{ℕ}
 use mathlib.Core.Path.{◌≡◌, refl, sym, ap, ◌∙◌}
 use mathlib.Core.Bool.{Bool, true, false}
@@ -7,8 +7,9 @@ use lib.Dec.{eqb}
 use Rattle.rules.specs.Stock.{IsStrip}
 use Rattle.rules.specs.Neighbours.{places}
 use Rattle.rules.specs.Refusals.{fine, when}
-use Rattle.directions.specs.Directions.{directions}
-use Rattle.walking.specs.declared.stepping.Exchanged.{Exchanged}
+use Rattle.walker.specs.declared.Walker.{Walker}
+use Rattle.walker.specs.Walkers.{walker_for}
+use Rattle.walking.specs.declared.Moved.{Moved}
 use Rattle.walking.specs.Answers.{left_along, beside, end_no}
 use Rattle.walking.specs.Checked.{Checked, step_answer, step_strip}
 use Rattle.walking.proofs.OneMove.{made}
@@ -31,18 +32,18 @@ module _ (counts s : List ℕ) where
   unfolding end_no
   end_some d = when_some 9 (eqb (left_along d counts s) 0)
 
--- what a step that was made gives: the strip beside, its places and its directions
-pub record Step (d : Bool) (counts s : List ℕ) (r : Exchanged) (t : List ℕ) : Type 0 where
+-- what a step that was made gives: the strip beside, its places and its walker
+pub record Step (d : Bool) (counts s : List ℕ) (r : Moved) (t : List ℕ) : Type 0 where
   pub allowed : end_no d counts s ≡ fine
   pub own : IsStrip counts t
   pub strip : t ≡ beside d counts s
   pub shown : places s t ≡ r.low ∷ r.high ∷ []
-  pub directed : r.directions ≡ directions counts t
+  pub walker : r.walker ≡ walker_for counts t
 
-module _ (d : Bool) (counts s : List ℕ) (w : List Bool) (c : Checked counts s w) (r : Exchanged) (t : List ℕ) (is : (r ≡ step_answer d counts s w) × (t ≡ step_strip d counts s)) where
+module _ (d : Bool) (counts s : List ℕ) (w : Walker) (c : Checked counts s w) (r : Moved) (t : List ℕ) (is : (r ≡ step_answer d counts s w) × (t ≡ step_strip d counts s)) where
   no_is : r.refusal.no ≡ (end_no d counts s).0
   unfolding step_answer
-  no_is = ap (λ (r : Exchanged). r.refusal.no) is.0
+  no_is = ap (λ (r : Moved). r.refusal.no) is.0
 
   pub step_refused : (r.refusal.no ≡ 0 → ⊥) → (end_no d counts s ≡ (9, 0)) × (t ≡ s)
   unfolding step_strip
@@ -57,4 +58,4 @@ module _ (d : Bool) (counts s : List ℕ) (w : List Bool) (c : Checked counts s 
       let k = (made d counts s c.strip e).1 in
       let p = k.shown in
       let u : t ≡ beside d counts s = is.1 ∙ rw e in
-      rw (u, is.0, e) (record { allowed = e; own = k.own; strip = refl; shown = rw p; directed = refl })
+      rw (u, is.0, e) (record { allowed = e; own = k.own; strip = refl; shown = rw p; walker = refl })

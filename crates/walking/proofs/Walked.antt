@@ -1,4 +1,4 @@
--- Proofs. A walk on its way, on or back: after i moves the strip is the one i numbers further, and w its directions.
+-- Proofs. A walk on its way, on or back: after i moves the strip is the one i numbers further, and the walker is its walker.
 use Prim.Native.Nat.{ℕ, suc, ◌+◌, ◌-◌, ◌≤◌, ◌<◌}
 use mathlib.Core.Path.{◌≡◌, sym, ap, ◌∙◌}
 use mathlib.Core.Bool.{Bool}
@@ -10,8 +10,9 @@ use lib.ListN.{length}
 use Rattle.rules.specs.Stock.{IsStock, IsStrip}
 use Rattle.rules.specs.Neighbours.{places, swap}
 use Rattle.rules.proofs.Strips.{move_of, strip_sum}
-use Rattle.directions.specs.Directions.{directions}
-use Rattle.walking.specs.declared.stepping.Exchanged.{Exchanged}
+use Rattle.walker.specs.declared.Walker.{Walker}
+use Rattle.walker.specs.Walkers.{walker_for}
+use Rattle.walking.specs.declared.Moved.{Moved}
 use Rattle.walking.specs.declared.finding.Found.{Found}
 use Rattle.walking.specs.Answers.{along, left_along, end_no}
 use Rattle.walking.specs.Checked.{Checked, found, as_made, step_answer, step_strip}
@@ -19,17 +20,17 @@ use Rattle.walking.proofs.OneMove.{Makes, found_none, found_some, moves}
 use Rattle.walking.proofs.Along.{none_left, some_left, along_none, along_strip, along_left, along_beside}
 use Rattle.walking.proofs.Stepped.{Step, step_refused, step_made}
 
-pub record Walked (d : Bool) (counts s t : List ℕ) (w : List Bool) (i : ℕ) : Type 0 where
+pub record Walked (d : Bool) (counts s t : List ℕ) (w : Walker) (i : ℕ) : Type 0 where
   pub made : i ≤ left_along d counts s
   pub strip : t ≡ along d counts s i
-  pub directed : w ≡ directions counts t
+  pub walker : w ≡ walker_for counts t
 
-pub start : (d : Bool) (counts s : List ℕ) (w : List Bool) → Checked counts s w → Walked d counts s s w 0
-start d counts s w c = record { made = omega arith; strip = sym (along_none d counts s c.strip); directed = c.directed }
+pub start : (d : Bool) (counts s : List ℕ) (w : Walker) → Checked counts s w → Walked d counts s s w 0
+start d counts s w c = record { made = omega arith; strip = sym (along_none d counts s c.strip); walker = c.walker }
 
-module _ (d : Bool) (counts s t : List ℕ) (w : List Bool) (i : ℕ) (k : IsStock counts) (h : IsStrip counts s) (v : Walked d counts s t w i) where
+module _ (d : Bool) (counts s t : List ℕ) (w : Walker) (i : ℕ) (k : IsStock counts) (h : IsStrip counts s) (v : Walked d counts s t w i) where
   pub checked : Checked counts t w
-  checked = record { stock = k; strip = rw v.strip (along_strip d counts s h i v.made); directed = v.directed }
+  checked = record { stock = k; strip = rw v.strip (along_strip d counts s h i v.made); walker = v.walker }
 
   pub same_length : length t ≡ length s
   same_length = strip_sum counts t checked.strip ∙ sym (strip_sum counts s h)
@@ -39,11 +40,11 @@ module _ (d : Bool) (counts s t : List ℕ) (w : List Bool) (i : ℕ) (k : IsSto
   here = rw v.strip (along_left d counts s h i v.made)
 
   -- a step from there
-  module _ (r : Exchanged) (u : List ℕ) (is : (r ≡ step_answer d counts t w) × (u ≡ step_strip d counts t)) where
+  module _ (r : Moved) (u : List ℕ) (is : (r ≡ step_answer d counts t w) × (u ≡ step_strip d counts t)) where
     -- it is made where a move is left, and else not
     pub allowed : i < left_along d counts s → r.refusal.no ≡ 0
     unfolding step_answer end_no
-    allowed l = ap (λ (r : Exchanged). r.refusal.no) is.0 ∙ rw (ne_eqb (left_along d counts t) 0 (omega (arith, here)))
+    allowed l = ap (λ (r : Moved). r.refusal.no) is.0 ∙ rw (ne_eqb (left_along d counts t) 0 (omega (arith, here)))
 
     pub stopped : (r.refusal.no ≡ 0 → ⊥) → (left_along d counts s ≡ i) × (u ≡ t)
     stopped z =
@@ -58,8 +59,8 @@ module _ (d : Bool) (counts s t : List ℕ) (w : List Bool) (i : ℕ) (k : IsSto
       to = step.strip ∙ rw v.strip (along_beside d counts s h i v.made)
 
       -- the walk goes on, and these are the places of the move
-      pub on : Walked d counts s u r.directions (i + 1)
-      on = rw (add-one i) record { made = omega (arith, some_left d counts t step.allowed, here); strip = to; directed = step.directed }
+      pub on : Walked d counts s u r.walker (i + 1)
+      on = rw (add-one i) record { made = omega (arith, some_left d counts t step.allowed, here); strip = to; walker = step.walker }
 
       pub shown : places (along d counts s i) (along d counts s (suc i)) ≡ r.low ∷ r.high ∷ []
       shown = rw (← v.strip, ← to) step.shown
@@ -78,7 +79,7 @@ module _ (d : Bool) (counts s t : List ℕ) (w : List Bool) (i : ℕ) (k : IsSto
       more = omega (arith, some_left d counts t move.allowed, here)
 
       -- it is made: that is a step
-      pub as_step : (r : Exchanged) (u : List ℕ) → (r ≡ as_made m (length counts) w) × (u ≡ swap 0 t m.low m.high) → (r.refusal.no ≡ 0) × (r ≡ step_answer d counts t w) × (u ≡ step_strip d counts t)
+      pub as_step : (r : Moved) (u : List ℕ) → (r ≡ as_made m (length counts) w) × (u ≡ swap 0 t m.low m.high) → (r.refusal.no ≡ 0) × (r ≡ step_answer d counts t w) × (u ≡ step_strip d counts t)
       as_step r u e =
           let makes = moves d counts t w checked m move in
-          (ap (λ (r : Exchanged). r.refusal.no) e.0, e.0 ∙ makes.0, e.1 ∙ makes.1)
+          (ap (λ (r : Moved). r.refusal.no) e.0, e.0 ∙ makes.0, e.1 ∙ makes.1)

@@ -4,10 +4,10 @@ use Rattle.std.specs.Prelude.{ℕ, ◌+◌, ◌-◌, Bool, true, false, List, []
 use Rattle.rules.specs.Stock.{total}
 use Rattle.rules.specs.Book.{book, place_in}
 use Rattle.rules.specs.Neighbours.{places}
-use Rattle.rules.specs.Refusals.{No, when, first_of, unless}
+use Rattle.rules.specs.Refusals.{No, when, first_of, unless, check_nos}
 use Rattle.stock.specs.Refused.{refusal}
 use Rattle.walker.specs.declared.Walker.{Walker}
-use Rattle.walker.specs.Walkers.{walker_for, walker_nos}
+use Rattle.walker.specs.Walkers.{walker_for, walker_no}
 use Rattle.walking.specs.declared.Moved.{Moved}
 
 -- the number m further on than number i, or at true further back
@@ -43,10 +43,10 @@ left counts s = left_along false counts s
 unfoldable pub end_no : Bool → List ℕ → List ℕ → No
 end_no back counts s = when 9 (eqb (left_along back counts s) 0)
 
--- ---- Walk, one move on or at true back: refusals 1 to 6, then 10 for the directions and for the number, then 9
+-- ---- Walk, one move on or at true back: refusals 1 to 6, then 10, then 9
 
 unfoldable pub move_nos : Bool → List ℕ → List ℕ → Walker → List No
-move_nos back counts s w = walker_nos counts s w ++ (end_no back counts s ∷ [])
+move_nos back counts s w = check_nos counts s ++ (walker_no counts s w ∷ end_no back counts s ∷ [])
 
 abbrev pub as_moved : No → List ℕ → Walker → Moved
 as_moved r pq w = record { refusal = refusal r; low = get_or pq 0 0; high = get_or pq 1 0; walker = w }

@@ -6,6 +6,7 @@ ghost use Rattle.walking.specs.Checked.{Checked, IsMove};
 
 use left::step_left;
 use moves::{Step, next, prev};
+use walker::Walker;
 
 // The kind that moves, and the two places from 0, smaller first. No move: kind 0.
 #[derive(Drop)]
@@ -39,8 +40,8 @@ fn step_to(finder: Finder, word: &[u8], kind: u8, others: usize, heading: bool) 
 
 // The move on, or back: the last kind moves if it can, and if not, a kind before it. A kind that cannot move stands whole in front of the kinds
 // below it or behind them, so that their blocks are a part of the strip, from lo to before hi.
-fn find_by(finder: Finder, stock: &[u16], strip: &[u8], directions: [bool; 16], back: bool) -> Found
-    requires { Checked stock.now strip.now directions }
+fn find_by(finder: Finder, stock: &[u16], strip: &[u8], walker: Walker, back: bool) -> Found
+    requires { Checked stock.now strip.now walker }
     ensures { IsMove back stock.now strip.now result }
 {
     let mut lo: usize = 0;
@@ -50,7 +51,7 @@ fn find_by(finder: Finder, stock: &[u16], strip: &[u8], directions: [bool; 16], 
         let kind = j;
         j -= 1;
         let amount = stock[j] as usize;
-        let heading = directions[j] != back;
+        let heading = walker.back[j] != back;
         let m = step_to(
             finder,
             &strip[lo..hi],
@@ -79,17 +80,17 @@ fn find_by(finder: Finder, stock: &[u16], strip: &[u8], directions: [bool; 16], 
 }
 
 // The move, found from the left: most moves happen there, so this is the finder for many moves.
-pub fn find(stock: &[u16], strip: &[u8], directions: [bool; 16], back: bool) -> Found
-    requires { Checked stock.now strip.now directions }
+pub fn find(stock: &[u16], strip: &[u8], walker: Walker, back: bool) -> Found
+    requires { Checked stock.now strip.now walker }
     ensures { IsMove back stock.now strip.now result }
 {
-    find_by(Finder::Left, stock, strip, directions, back)
+    find_by(Finder::Left, stock, strip, walker, back)
 }
 
 // The same move, found by the rule's own recursion.
-pub fn find_by_rule(stock: &[u16], strip: &[u8], directions: [bool; 16], back: bool) -> Found
-    requires { Checked stock.now strip.now directions }
+pub fn find_by_rule(stock: &[u16], strip: &[u8], walker: Walker, back: bool) -> Found
+    requires { Checked stock.now strip.now walker }
     ensures { IsMove back stock.now strip.now result }
 {
-    find_by(Finder::Rule, stock, strip, directions, back)
+    find_by(Finder::Rule, stock, strip, walker, back)
 }

@@ -1,5 +1,4 @@
 // Walking: moving a strip on and back through its book.
-pub mod carrying;
 pub mod finding;
 pub mod stepping;
 pub mod walk;

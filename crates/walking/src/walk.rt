@@ -3,15 +3,12 @@ ghost use Rattle.std.specs.Prelude.{◌≡◌};
 ghost use Rattle.walking.specs.Answers.{move_answer, move_strip};
 
 use crate::Moved;
-use crate::carrying::carry_on;
 use crate::finding::find_by_rule;
-use crate::stepping::make;
-use stock::Refusal;
+use crate::stepping::make_any;
 use walker::Walker;
 use walker::check::check_walker;
 
-// Exchanges two blocks on the strip, and answers their places and the new walker, its number one up or down. Refusals 1 to 6 and 10, then 9 where no move
-// is found.
+// Exchanges two blocks on the strip, and answers their places and the new walker. Refusals 1 to 6 and 10, then 9 where no move is found.
 pub fn walk(stock: &[u16], strip: &mut [u8], walker: Walker, back: bool) -> Moved
     ensures { (result ≡ move_answer back stock.now strip.old walker) × (strip.new ≡ move_strip back stock.now strip.old walker) }
 {
@@ -25,24 +22,6 @@ pub fn walk(stock: &[u16], strip: &mut [u8], walker: Walker, back: bool) -> Move
             walker,
         };
     }
-    let directions = walker.back;
-    let m = find_by_rule(stock, strip, directions, back);
-    let kind = m.kind;
-    if kind == 0 {
-        return Moved {
-            refusal: Refusal { no: 9, place: 0 },
-            low: 0,
-            high: 0,
-            walker,
-        };
-    }
-    let made = make(stock, strip, directions, m);
-    let turned = made.directions;
-    let next = carry_on(walker, turned, back, 1);
-    Moved {
-        refusal,
-        low: made.low,
-        high: made.high,
-        walker: next,
-    }
+    let m = find_by_rule(stock, strip, walker, back);
+    make_any(stock, strip, walker, m)
 }

@@ -6,9 +6,9 @@ ghost use Rattle.sheets.specs.Writing.{as_written, write_answer, sheet_written};
 use crate::moves::moves_up_to;
 use crate::room::has_room;
 use crate::whole::put_sheet;
-use directions::directions_of;
 use sheets::Written;
 use stock::{Refusal, check_strip};
+use walker::directions::walker_of;
 
 // A writing that is refused by a number without a place.
 pub fn refused(no: u8) -> Written
@@ -29,12 +29,12 @@ pub fn write_moves(stock: &[u16], strip: &[u8], moves: u64, sheet: &mut [u8]) ->
     if !has_room(sheet.len(), moves) {
         return refused(13);
     }
-    let directions = directions_of(stock, strip);
+    let walker = walker_of(stock, strip);
     let c = moves as usize;
-    if moves_up_to(stock, strip, directions, c) < c {
+    if moves_up_to(stock, strip, walker, c) < c {
         return refused(9);
     }
-    put_sheet(sheet, stock, strip, directions, c);
+    put_sheet(sheet, stock, strip, walker, c);
     Written {
         refusal: Refusal { no: 0, place: 0 },
         length: 83 + 3 * moves,

@@ -6,7 +6,7 @@ use native.Mathlib.Omega.{arith}
 use lib.ListN.{length, drop, replicate, length-append}
 use borrow.Author.Rules.{rules}
 use Rattle.rules.specs.Stock.{sum}
-use Rattle.showing.proofs.First.{room, length_0, part_0, checked_0, first_shown}
+use Rattle.showing.proofs.First.{room, length_0, part_0, first_shown}
 use Rattle.showing.proofs.show_first.Statement.{statement}
 use Rattle.showing.proofs.show_first.Tie as tie
 
@@ -23,24 +23,18 @@ array_share_prefix_strip c =
     let f = c.before.first in
     omega (arith, length_0 (counts b) b.before.before.requires b.blocks2.result (n_is b) f.new.1.0 f.ensures.1, length-append f.new.1.0 (drop b.blocks2.result (replicate 64 0)))
 
-slice_aggregate_directions_of : tie.Need-slice-aggregate-directions-of
-slice_aggregate_directions_of c =
+slice_aggregate_open : tie.Need-slice-aggregate-open
+slice_aggregate_open c =
     let b = c.before.before.before.before in
     let f = c.before.before.first in
     let k = b.before.before.requires in
     length_0 (counts b) k b.blocks2.result (n_is b) f.new.1.0 f.ensures.1 ∙ sym (ap length (part_0 (counts b) k b.blocks2.result (n_is b) f.new.1.0 f.ensures.1))
 
-directions-of-requires : tie.Need-directions-of-requires
-directions-of-requires c κs =
-    let b = c.before.before.before.before in
-    let f = c.before.before.first in
-    checked_0 (counts b) b.before.before.requires b.blocks2.result (n_is b) f.new.1.0 f.ensures.1
-
 returns : tie.Need-returns
 returns c =
-    let b = c.before.before.before.before.before in
-    let f = c.before.before.before.first in
-    first_shown (counts b) b.before.before.requires b.blocks2.result (n_is b) f.new.1.0 f.ensures.1 c.directions-of.result c.directions-of.ensures
+    let b = c.before.before.before.before.before.before in
+    let f = c.before.before.before.before.first in
+    first_shown (counts b) b.before.before.requires b.blocks2.result (n_is b) f.new.1.0 f.ensures.1 c.before.«open».result c.before.«open».ensures
 
 pub show_first_spec : {M : Type 1} → statement M
 show_first_spec =
@@ -51,6 +45,6 @@ show_first_spec =
     (λ c. let b = c.before in room (counts b) b.before.before.requires b.blocks2.result (n_is b))
     (λ c κs. search rules)
     array_share_prefix_strip
-    slice_aggregate_directions_of
-    directions-of-requires
+    slice_aggregate_open
+    (λ c κs. search rules)
     returns)

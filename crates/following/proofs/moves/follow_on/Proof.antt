@@ -11,17 +11,17 @@ use Rattle.following.proofs.moves.follow_on.Statement.{statement}
 use Rattle.following.proofs.moves.follow_on.Tie as tie
 
 abbrev invariant-loop : tie.invariant-loop
-invariant-loop sheet from stock strip₀ strides directions₀ at₀ moves₀ strip directions at moves = Underway strides stock sheet (follow strides stock strip₀ from (drop from sheet)) strip directions at moves
+invariant-loop sheet from stock strip₀ strides walker₀ at₀ moves₀ strip walker at moves = Underway strides stock sheet (follow strides stock strip₀ from (drop from sheet)) strip walker at moves
 
 abbrev decreases-loop : tie.decreases-loop
-decreases-loop sheet from stock strip₀ strides directions₀ at₀ moves₀ strip directions at moves = length sheet - at
+decreases-loop sheet from stock strip₀ strides walker₀ at₀ moves₀ strip walker at moves = length sheet - at
 
 -- at the loop's head: the strip is checked and has kept its length
 module _ (b : tie.At-loop invariant-loop decreases-loop) where
   abbrev a : tie.Start invariant-loop decreases-loop
   a = b.before.before.before.before
 
-  ready : Checked a.args.stock.now b.loop.strip b.loop.directions
+  ready : Checked a.args.stock.now b.loop.strip b.loop.walker
   ready = checked _ _ _ _ _ _ _ _ b.loop.inv a.pre.stock
 
   kept : length b.loop.strip ≡ length a.args.strip.now

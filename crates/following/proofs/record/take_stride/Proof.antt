@@ -21,10 +21,10 @@ returns-3 : tie.Need-returns-3
 returns-3 c =
     let t = c.before.before.before.before.before in
     let b = c.before.before.before.before.before.before.before.before.before.before.before.before in
-    took_stride _ _ _ _ b.args.directions b.requires.1 b.requires.2 (omega arith) _ t.before.before.number_at.ensures _ _ t.stride_on.ensures (omega arith) _ c.directions-of.ensures
+    took_stride _ _ _ _ b.args.walker b.requires.1 b.requires.2 (omega arith) _ t.before.before.number_at.ensures _ _ t.stride_on.ensures (omega arith) _ c.walker-of.ensures
 
-directions-of-requires : tie.Need-directions-of-requires
-directions-of-requires c κs =
+walker-of-requires : tie.Need-walker-of-requires
+walker-of-requires c κs =
     let t = c.before.before.before.before in
     let b = c.before.before.before.before.before.before.before.before.before.before.before in
     (b.requires.0.stock, own_after _ _ _ _ _ b.requires.0.strip t.stride_on.ensures (omega arith))
@@ -42,6 +42,6 @@ take_stride_spec =
     (λ c κs. search rules)
     (λ c. search rules)
     returns-2
-    directions-of-requires
+    walker-of-requires
     (λ c. search rules)
     returns-3)

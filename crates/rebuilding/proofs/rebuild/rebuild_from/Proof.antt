@@ -16,21 +16,21 @@ use Rattle.rebuilding.proofs.Called.{sound_stock, sound_strip, sound_long, moves
 use Rattle.rebuilding.proofs.rebuild.rebuild_from.Statement.{statement}
 use Rattle.rebuilding.proofs.rebuild.rebuild_from.Tie as tie
 
--- the strip with its directions
-module _ (c : tie.After-directions-of) where
+-- the strip with its walker
+module _ (c : tie.After-walker-of) where
   abbrev begun : tie.Start
   begun = c.before.before.before.before.before
 
-  ready : Checked begun.args.stock.now begun.args.strip.now c.directions-of.result
-  ready = record { stock = sound_stock _ _ _ begun.pre; strip = sound_strip _ _ _ begun.pre; directed = c.directions-of.ensures }
+  ready : Checked begun.args.stock.now begun.args.strip.now c.walker-of.result
+  ready = record { stock = sound_stock _ _ _ begun.pre; strip = sound_strip _ _ _ begun.pre; walker = c.walker-of.ensures }
 
 -- how many moves are made
 module _ (c : tie.After-moves-up-to) where
-  abbrev directed : tie.After-directions-of
-  directed = c.before
+  abbrev walker : tie.After-walker-of
+  walker = c.before
 
-  made : c.moves-up-to.result ≡ rebuilt_moves (begun directed).args.sheet.now
-  made = moves_are _ _ _ (begun directed).pre c.moves-up-to.result c.moves-up-to.ensures
+  made : c.moves-up-to.result ≡ rebuilt_moves (begun walker).args.sheet.now
+  made = moves_are _ _ _ (begun walker).pre c.moves-up-to.result c.moves-up-to.ensures
 
 -- past 13
 module _ (c : tie.Else1) where
@@ -38,7 +38,7 @@ module _ (c : tie.Else1) where
   walked = c.before.before
 
   abbrev start : tie.Start
-  start = begun (directed walked)
+  start = begun (walker walked)
 
   abbrev moves : ℕ
   moves = walked.moves-up-to.result
@@ -73,7 +73,7 @@ module _ (c : tie.After-put-sheet) where
 returns : tie.Need-returns
 returns c =
     let m = c.before.before.before in
-    let b = begun (directed m) in
+    let b = begun (walker m) in
     rw c.refused.ensures (no_room b.args.sheet.now b.args.out.now _ _ b.pre m.moves-up-to.result (made m) (c.before.before.has_room.ensures.1 (rw c.before.if1.true tt)))
 
 returns-2 : tie.Need-returns-2
@@ -93,7 +93,7 @@ rebuild_from_spec =
     (λ c κs. search rules)
     (λ c κs. search rules)
     returns
-    (λ c κs. (ready (directed (walked c.before)), enough c.before, room c.before))
+    (λ c κs. (ready (walker (walked c.before)), enough c.before, room c.before))
     (λ c. search rules)
     (λ c. search rules)
     (λ c. omega (arith, fits c.before.before))

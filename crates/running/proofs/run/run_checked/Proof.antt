@@ -11,17 +11,17 @@ use Rattle.running.proofs.run.run_checked.Statement.{statement}
 use Rattle.running.proofs.run.run_checked.Tie as tie
 
 abbrev invariant-loop : tie.invariant-loop
-invariant-loop stock strip₀ back list₀ room directions₀ moves₀ strip list directions moves = Running back stock strip₀ list₀ strip directions list moves
+invariant-loop stock strip₀ back list₀ room walker₀ moves₀ strip list walker moves = Running back stock strip₀ list₀ strip walker list moves
 
 abbrev decreases-loop : tie.decreases-loop
-decreases-loop stock strip₀ back list₀ room directions₀ moves₀ strip list directions moves = room - moves
+decreases-loop stock strip₀ back list₀ room walker₀ moves₀ strip list walker moves = room - moves
 
 loop-holds : tie.Need-loop-init invariant-loop decreases-loop
 loop-holds c = start _ _ _ _ _ c.before.before.before.requires
 
--- the strip and its directions at the loop's head are checked, and the strip and the list have kept their lengths
+-- the strip and the walker at the loop's head are checked, and the strip and the list have kept their lengths
 module _ (b : tie.At-loop invariant-loop decreases-loop) where
-  ready : Checked b.before.before.before.before.args.stock.now b.loop.strip b.loop.directions
+  ready : Checked b.before.before.before.before.args.stock.now b.loop.strip b.loop.walker
   ready = let p = b.before.before.before.before.requires in checked _ _ _ _ _ _ _ _ p.stock p.strip b.loop.invariant
 
   strip_kept : length b.loop.strip ≡ length b.before.before.before.before.args.strip.now
@@ -35,14 +35,14 @@ returns c =
     let f = c.before.before in
     let b = f.before.before in
     let p = b.before.before.before.before.requires in
-    stop _ _ _ _ _ _ _ _ p.stock p.strip b.loop.invariant _ f.find.ensures c.before.if1.true _ c.stopped.ensures
+    stop _ _ _ _ _ _ _ _ p.stock p.strip b.loop.invariant _ f.find.ensures c.before.if1.true _ c.answered.ensures
 
 returns-2 : tie.Need-returns-2 invariant-loop decreases-loop
 returns-2 c =
     let f = c.before.before.before in
     let b = f.before.before in
     let p = b.before.before.before.before.requires in
-    full _ _ _ _ _ _ _ _ p.stock p.strip b.loop.invariant _ f.find.ensures c.before.before.if1.false c.before.if2.true _ c.stopped2.ensures
+    full _ _ _ _ _ _ _ _ p.stock p.strip b.loop.invariant _ f.find.ensures c.before.before.if1.false c.before.if2.true _ c.answered2.ensures
 
 -- a move is found, and there is room for it
 module _ (e : tie.Else2 invariant-loop decreases-loop) where

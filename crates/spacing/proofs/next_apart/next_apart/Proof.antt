@@ -8,7 +8,7 @@ use borrow.Author.Rules.{rules}
 use Rattle.rules.proofs.Strips.{strip_fits}
 use Rattle.copying.proofs.Copies.{copy_length, copy_start, copy_whole, room, start, start_fits}
 use Rattle.walking.specs.Checked.{Checked}
-use Rattle.walking.proofs.Called.{checked, can_count}
+use Rattle.walking.proofs.Called.{checked}
 use Rattle.spacing.specs.Seeking.{Reached}
 use Rattle.spacing.proofs.Called.{refused, not_found, found}
 use Rattle.spacing.proofs.next_apart.next_apart.Statement.{statement}
@@ -16,7 +16,7 @@ use Rattle.spacing.proofs.next_apart.next_apart.Tie as tie
 
 -- 1 to 6 and 10 refuse
 returns : tie.Need-returns
-returns c = rw c.answered.ensures (refused _ _ _ _ _ _ c.before.before.check-walker.ensures (omega arith))
+returns c = refused _ _ _ _ _ _ c.before.check-walker.ensures (omega arith)
 
 -- past the checks: the stock, the strip and the walker are accepted
 module _ (c : tie.Else1) where
@@ -26,12 +26,8 @@ module _ (c : tie.Else1) where
   abbrev strip : List ℕ
   strip = begun.args.strip.now
 
-  -- a walker has sixteen directions
-  sixteen : length begun.args.walker.back ≡ 16
-  sixteen = search rules
-
-  good : Checked begun.args.stock.now strip begun.args.walker.back
-  good = checked _ _ _ _ c.before.check-walker.ensures sixteen (omega arith)
+  good : Checked begun.args.stock.now strip begun.args.walker
+  good = checked _ _ _ _ c.before.check-walker.ensures (search rules) (omega arith)
 
   short : length strip ≤ 64
   short = strip_fits _ _ good.stock good.strip
@@ -41,21 +37,18 @@ copy_is : (c : tie.After-copied) → take (length (strip c.before.before)) c.cop
 copy_is c = copy_start 64 (strip c.before.before) c.copied.result c.copied.ensures
 
 array_borrow_prefix_word : tie.Need-array-borrow-prefix-word
-array_borrow_prefix_word c =
-    let k = c.before in
-    let e = k.before.before in
-    omega (arith, copy_length 64 (strip e) k.copied.result k.copied.ensures (short e), short e)
+array_borrow_prefix_word c = let e = c.before.before in omega (arith, copy_length 64 (strip e) c.copied.result c.copied.ensures (short e), short e)
 
 -- what the search says of the strip
 module _ (c : tie.After-seek) where
   abbrev past : tie.Else1
-  past = c.before.before.before.before.before
+  past = c.before.before.before.before
 
   reached : let a = (begun past).args in Reached a.endless a.stock.now (strip past) a.given c.seek.result c.seek.new.1.0
-  reached = rw (copy_is c.before.before.before) at c.seek.ensures
+  reached = rw (copy_is c.before.before) at c.seek.ensures
 
   long : length c.seek.new.1.0 ≡ length (strip past)
-  long = c.seek.auto.1.0 ∙ ap length (copy_is c.before.before.before)
+  long = c.seek.auto.1.0 ∙ ap length (copy_is c.before.before)
 
   -- it stands at the start of the word
   there : (rest : List ℕ) → take (length (strip past)) (c.seek.new.1.0 ++ rest) ≡ c.seek.new.1.0
@@ -64,8 +57,8 @@ module _ (c : tie.After-seek) where
 -- none is found
 returns-2 : tie.Need-returns-2
 returns-2 c =
-    let q = c.before.before.before in
-    rw c.answered2.ensures (not_found _ _ _ _ _ _ (past q).before.check-walker.ensures (omega arith) _ _ (reached q) (omega arith))
+    let q = c.before.before in
+    not_found _ _ _ _ _ _ (past q).before.check-walker.ensures (omega arith) _ _ (reached q) (omega arith)
 
 array_share_prefix_word : tie.Need-array-share-prefix-word
 array_share_prefix_word c = let q = c.before.before in room (length (strip (past q))) q.seek.new.1.0 _ (long q)
@@ -76,42 +69,29 @@ slice_aggregate_copy c = let q = c.before.before.before in sym (long q) ∙ sym 
 copy-requires : tie.Need-copy-requires
 copy-requires c κs = let q = c.before.before.before.before in start_fits (length (strip (past q))) q.seek.new.1.0 _ (long q)
 
--- its moves can be counted
-carry-on-requires : tie.Need-carry-on-requires
-carry-on-requires c κs =
-    let q = c.before.before.before.before.before.before.before.before in
-    let p = past q in
-    λ e. omega (arith, can_count _ _ (begun p).args.walker _ p.before.check-walker.ensures (sixteen p) (omega arith) (reached q).walked e)
-
 -- one is found, and copied back
 returns-3 : tie.Need-returns-3
 returns-3 c =
-    let k = c.before.before.before.before.before in
+    let k = c.before.before.before in
     let q = k.before.before.before.before.before in
-    let p = past q in
-    rw c.answered3.ensures
-    (found _ _ _ _ _ _ p.before.check-walker.ensures (omega arith) _ _ (reached q) (sixteen p) (omega arith) _
-    (copy_whole _ _ _ k.copy.ensures.1 (ap length (there q _) ∙ long q) ∙ there q _) _ c.before.carry-on.ensures)
+    found _ _ _ _ _ _ (past q).before.check-walker.ensures (omega arith) _ _ (reached q) (omega arith) _
+    (copy_whole _ _ _ k.copy.ensures.1 (ap length (there q _) ∙ long q) ∙ there q _)
 
 pub next_apart_spec : {M : Type 1} → statement M
 next_apart_spec =
     tie.close
     (tie.spec
     (λ c κs. search rules)
-    (λ c κs. search rules)
     (λ c. search rules)
     returns
     (λ c κs. short c.before)
     array_borrow_prefix_word
-    (λ c. sym (ap length (copy_is c.before.before)))
-    (λ c κs. rw (copy_is c.before.before) (good c.before.before.before.before))
-    (λ c κs. search rules)
+    (λ c. sym (ap length (copy_is c.before)))
+    (λ c κs. rw (copy_is c.before) (good c.before.before.before))
     (λ c. search rules)
     returns-2
     array_share_prefix_word
     slice_aggregate_copy
     copy-requires
-    carry-on-requires
-    (λ c κs. search rules)
     (λ c. search rules)
     returns-3)

@@ -13,17 +13,17 @@ use Rattle.spacing.proofs.seek.seek.Statement.{statement}
 use Rattle.spacing.proofs.seek.seek.Tie as tie
 
 abbrev invariant-loop : tie.invariant-loop
-invariant-loop stock strip₀ endless given directions₀ moves₀ seen₀ strip directions moves seen = Seeking endless stock strip₀ given strip directions moves seen
+invariant-loop stock strip₀ endless given walker₀ moves₀ seen₀ strip walker moves seen = Seeking endless stock strip₀ given strip walker moves seen
 
 abbrev decreases-loop : tie.decreases-loop
-decreases-loop stock strip₀ endless given directions₀ moves₀ seen₀ strip directions moves seen = given - moves
+decreases-loop stock strip₀ endless given walker₀ moves₀ seen₀ strip walker moves seen = given - moves
 
--- the strip and the directions at the loop's head are checked, and the strip has kept its length
+-- the strip and the walker at the loop's head are checked, and the strip has kept its length
 module _ (b : tie.At-loop invariant-loop decreases-loop) where
   abbrev begun : tie.Start invariant-loop decreases-loop
   begun = b.before.before.before
 
-  ready : Checked begun.args.stock.now b.loop.strip b.loop.directions
+  ready : Checked begun.args.stock.now b.loop.strip b.loop.walker
   ready = checked _ _ _ _ _ _ _ _ begun.pre.stock begun.pre.strip b.loop.inv
 
   kept : length b.loop.strip ≡ length begun.args.strip.now

@@ -2,9 +2,8 @@
 use mathlib.Core.Path.{ap}
 use native.Mathlib.Omega.{arith}
 use borrow.Author.Rules.{rules}
-use borrow.Author.Tests.{not-true, not-false}
 use Rattle.stock.specs.Refused.{refusal}
-use Rattle.walker.proofs.Differing.{open_refused, walker_wrong, number_wrong, walker_fine}
+use Rattle.walker.proofs.Differing.{open_refused, walker_wrong, walker_fine}
 use Rattle.walker.proofs.check.check_walker.Statement.{statement}
 use Rattle.walker.proofs.check.check_walker.Tie as tie
 
@@ -12,13 +11,10 @@ returns : tie.Need-returns
 returns c = open_refused _ _ _ _ c.before.before.«open».ensures (omega arith)
 
 returns-2 : tie.Need-returns-2
-returns-2 c = ap refusal (walker_wrong _ _ _ _ c.before.before.before.before.before.before.before.«open».ensures (omega arith) _ c.before.wrong-kind.ensures (omega arith))
+returns-2 c = ap refusal (walker_wrong _ _ _ _ c.before.before.before.before.before.«open».ensures (omega arith) _ c.before.wrong-kind.ensures (omega arith))
 
 returns-3 : tie.Need-returns-3
-returns-3 c = ap refusal (number_wrong _ _ _ _ c.before.before.before.before.before.before.before.before.before.«open».ensures (omega arith) _ c.before.before.before.wrong-kind.ensures (omega arith) _ c.before.same_number.ensures (not-true _ c.if3.true))
-
-returns-4 : tie.Need-returns-4
-returns-4 c = ap refusal (walker_fine _ _ _ _ c.before.before.before.before.before.before.before.before.before.«open».ensures (omega arith) _ c.before.before.before.wrong-kind.ensures (omega arith) _ c.before.same_number.ensures (not-false _ c.if3.false))
+returns-3 c = ap refusal (walker_fine _ _ _ _ c.before.before.before.before.before.«open».ensures (omega arith) _ c.before.wrong-kind.ensures (omega arith))
 
 pub check_walker_spec : {M : Type 1} → statement M
-check_walker_spec = tie.close (tie.spec (λ c κs. search rules) returns (λ c κs. search rules) returns-2 (λ c κs. search rules) returns-3 returns-4)
+check_walker_spec = tie.close (tie.spec (λ c κs. search rules) returns (λ c κs. search rules) returns-2 returns-3)

@@ -7,7 +7,7 @@ use Rattle.walker.proofs.check.wrong_kind.Statement.{statement}
 use Rattle.walker.proofs.check.wrong_kind.Tie as tie
 
 abbrev invariant-loop : tie.invariant-loop
-invariant-loop one other i₀ i = Compared one other i
+invariant-loop one other i₀ i = Compared one.back other.back i
 
 abbrev decreases-loop : tie.decreases-loop
 decreases-loop one other i₀ i = 16 - i
@@ -22,7 +22,7 @@ wrong_kind_spec =
     (λ c. omega arith)
     (λ c. omega arith)
     (λ c. omega arith)
-    (λ c. here _ _ (search rules) (search rules) _ c.before.before.loop.invariant (omega arith) c.if1.true)
+    (λ c. here _ _ (search rules) (search rules) _ c.before.before.before.before.loop.invariant (omega arith) c.if1.true)
     (λ c. omega arith)
-    (λ c. on _ _ (search rules) (search rules) _ c.before.before.loop.invariant (omega arith) c.if1.false)
+    (λ c. on _ _ (search rules) (search rules) _ c.before.before.before.before.loop.invariant (omega arith) c.if1.false)
     (λ c. end _ _ (search rules) (search rules) _ c.before.loop.invariant (omega arith)))

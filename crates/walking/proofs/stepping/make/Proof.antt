@@ -5,14 +5,14 @@ use mathlib.Core.List.{[], ◌∷◌}
 use native.Mathlib.Omega.{arith}
 use lib.ListN.{length-set}
 use Rattle.rules.specs.Refusals.{fine}
-use Rattle.walking.specs.Checked.{as_exchanged}
+use Rattle.walking.specs.Answers.{as_moved}
 use Rattle.walking.proofs.stepping.make.Statement.{statement}
 use Rattle.walking.proofs.stepping.make.Tie as tie
 
 returns : tie.Need-returns
 returns c =
     let m = c.before.before.before.before.before.args.m in
-    (ap (as_exchanged fine ((m.low + 1) ∷ (m.high + 1) ∷ [])) c.turned-above.ensures, refl)
+    (ap (as_moved fine ((m.low + 1) ∷ (m.high + 1) ∷ [])) c.turned-above.ensures, refl)
 
 pub make_spec : {M : Type 1} → statement M
 make_spec =

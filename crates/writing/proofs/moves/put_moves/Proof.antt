@@ -12,14 +12,14 @@ use Rattle.writing.proofs.moves.put_moves.Statement.{statement}
 use Rattle.writing.proofs.moves.put_moves.Tie as tie
 
 abbrev invariant-loop : tie.invariant-loop
-invariant-loop rest₀ stock strip₀ moves directions₀ at₀ listed₀ rest strip directions at listed = (listed ≤ moves) × Listing stock strip₀ rest₀ strip directions rest at listed
+invariant-loop rest₀ stock strip₀ moves walker₀ at₀ listed₀ rest strip walker at listed = (listed ≤ moves) × Listing stock strip₀ rest₀ strip walker rest at listed
 
 abbrev decreases-loop : tie.decreases-loop
-decreases-loop rest₀ stock strip₀ moves directions₀ at₀ listed₀ rest strip directions at listed = moves - listed
+decreases-loop rest₀ stock strip₀ moves walker₀ at₀ listed₀ rest strip walker at listed = moves - listed
 
--- at the loop's head the strip and its directions are checked, and the strip is as long as it was
+-- at the loop's head the strip and the walker are checked, and the strip is as long as it was
 module _ (b : tie.At-loop invariant-loop decreases-loop) where
-  ready : Checked b.before.before.before.before.args.stock.now b.loop.strip b.loop.directions
+  ready : Checked b.before.before.before.before.args.stock.now b.loop.strip b.loop.walker
   ready = let p = b.before.before.before.before.requires.0 in checked false _ _ _ _ _ p.stock p.strip b.loop.invariant.1.walked
 
   kept : length b.loop.strip ≡ length b.before.before.before.before.args.strip.now

@@ -11,14 +11,14 @@ use Rattle.writing.proofs.moves.walk_up_to.Statement.{statement}
 use Rattle.writing.proofs.moves.walk_up_to.Tie as tie
 
 abbrev invariant-loop : tie.invariant-loop
-invariant-loop stock strip₀ most directions₀ made₀ strip directions made = (made ≤ most) × Walked false stock strip₀ strip directions made
+invariant-loop stock strip₀ most walker₀ made₀ strip walker made = (made ≤ most) × Walked false stock strip₀ strip walker made
 
 abbrev decreases-loop : tie.decreases-loop
-decreases-loop stock strip₀ most directions₀ made₀ strip directions made = most - made
+decreases-loop stock strip₀ most walker₀ made₀ strip walker made = most - made
 
--- at the loop's head the strip and its directions are checked, and the strip is as long as it was
+-- at the loop's head the strip and the walker are checked, and the strip is as long as it was
 module _ (b : tie.At-loop invariant-loop decreases-loop) where
-  ready : Checked b.before.before.before.args.stock.now b.loop.strip b.loop.directions
+  ready : Checked b.before.before.before.args.stock.now b.loop.strip b.loop.walker
   ready = let p = b.before.before.before.requires in checked false _ _ _ _ _ p.stock p.strip b.loop.invariant.1
 
   kept : length b.loop.strip ≡ length b.before.before.before.args.strip.now

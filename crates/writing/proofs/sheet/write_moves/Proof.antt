@@ -34,13 +34,13 @@ module _ (c : tie.Else1) where
   room : 83 + 3 * begun.args.moves ≤ length begun.args.sheet.now
   room = c.before.has_room.ensures.0 (rw (not-false c.before.has_room.result c.if1.false) tt)
 
--- the strip with its directions
-module _ (c : tie.After-directions-of) where
+-- the strip with its walker
+module _ (c : tie.After-walker-of) where
   abbrev roomy : tie.Else1
   roomy = c.before
 
-  ready : let a = (begun roomy).args in Checked a.stock.now a.strip.now c.directions-of.result
-  ready = let b = begun roomy in record { stock = b.pre.0; strip = b.pre.1; directed = c.directions-of.ensures }
+  ready : let a = (begun roomy).args in Checked a.stock.now a.strip.now c.walker-of.result
+  ready = let b = begun roomy in record { stock = b.pre.0; strip = b.pre.1; walker = c.walker-of.ensures }
 
 returns-2 : tie.Need-returns-2
 returns-2 c =
