@@ -1,4 +1,5 @@
 // Prints the book of a stock: reads one line of counts from standard input, and writes a line for each strip, with its number.
+#![tactic(auto)]
 use printout::print_out;
 
 fn main() {

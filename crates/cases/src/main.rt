@@ -1,5 +1,6 @@
 // Prints what the two printing programs give for many inputs: standard input holds them one after the other, each with a percent sign after it. Of each the
 // first six lines and the last of the book are written, and then those of the catalogue, either with a line with a percent sign after them.
+#![tactic(auto)]
 use io::{buffer, read_full, write_all};
 use printing::printer::{first_line, next_line};
 

@@ -1,4 +1,5 @@
 // Copying: a copy of a strip, so that a walk or a search can be tried while the lent strip stays.
+#![tactic(auto)]
 ghost use Rattle.std.specs.Prelude.{◌-◌, ◌≤◌, ◌≡◌, ◌++◌, length, replicate};
 
 use bytes::copy;

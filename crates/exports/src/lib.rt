@@ -1,4 +1,5 @@
 // The open calls for C. Each has the contract of the call that it passes on; include/nelfrupi.h tells a C programmer what it says.
+#![tactic(auto)]
 pub mod driving;
 
 ghost use Rattle.std.specs.Prelude.{◌≡◌, true, false};

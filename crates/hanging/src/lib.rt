@@ -1,4 +1,5 @@
 // Hanging: whether a strip stands for its endless paper, and hanging one so that it does.
+#![tactic(auto)]
 mod either;
 mod least;
 mod reversing;

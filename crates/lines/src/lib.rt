@@ -1,3 +1,4 @@
 // The lines that the printing programs print.
+#![tactic(auto)]
 mod text;
 pub mod writing;

@@ -3,6 +3,7 @@
 // was lent and what came.
 //
 // An array that many lines need is lent in one small function: each place that lends one makes the check of its function longer.
+#![tactic(auto)]
 mod filed;
 mod lines;
 mod rebuilt;

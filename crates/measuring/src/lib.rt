@@ -1,2 +1,3 @@
 // Measuring how far apart two strips of one stock are: the call Distance.
+#![tactic(auto)]
 pub mod distance;

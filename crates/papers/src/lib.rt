@@ -1,4 +1,5 @@
 // Papers: whether two strips, hung endless, are the same paper.
+#![tactic(auto)]
 mod places;
 
 ghost use Rattle.std.specs.Prelude.{◌≤◌, ◌<◌, ◌≡◌, length};

@@ -1,4 +1,5 @@
 // Printout: what the two printing programs do. The line on standard input is read, and the printer's lines are written to standard output.
+#![tactic(auto)]
 use io::{read_full, write_all};
 use printing::printer::{first_line, next_line};
 

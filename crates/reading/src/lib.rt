@@ -1,3 +1,4 @@
 // Reading press sheets.
+#![tactic(auto)]
 mod moves;
 pub mod reader;

@@ -1,4 +1,5 @@
 // Rebuilding a damaged press sheet.
+#![tactic(auto)]
 mod differing;
 pub mod rebuild;
 

@@ -1,4 +1,5 @@
 // Showing: the strip that a printer shows, strip after strip of a stock's book, or standing strip after standing strip of its dictionary.
+#![tactic(auto)]
 ghost use Rattle.std.specs.Prelude.{◌<◌, ◌≡◌, Bool, true, false};
 ghost use Rattle.rules.specs.Stock.{IsStock};
 ghost use Rattle.showing.specs.States.{shown_at, nowhere, next_shown, Held, Shows};

@@ -8,6 +8,7 @@
 // rebuilt of them, sheets of both editions are made of moves and strides, right or wrong, and compared with what is read, written and rewritten, and every
 // list of up to four bytes from 0 to 5 is replayed, right or wrong. Of one book that no number of 64 bits counts, the first strips and the last are written
 // down, and its sheets compared.
+#![tactic(auto)]
 mod books;
 mod compare;
 mod cuts;

@@ -1,4 +1,5 @@
 // The walker of a strip: the direction of each kind.
+#![tactic(auto)]
 pub mod check;
 pub mod directions;
 pub mod open;

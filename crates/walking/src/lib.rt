@@ -1,4 +1,5 @@
 // Walking: moving a strip on and back through its book.
+#![tactic(auto)]
 pub mod finding;
 pub mod stepping;
 pub mod walk;
