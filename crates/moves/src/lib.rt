@@ -1,5 +1,6 @@
 // Moving on and back in the list of patterns: which two places of a word of blocks to exchange.
 #![tactic(auto)]
+
 ghost use Rattle.std.specs.Prelude.{◌≤◌, ◌≡◌, true, false, length};
 ghost use Rattle.rules.proofs.Index.{rests};
 ghost use Rattle.moves.specs.Steps.{step_of, or_places};
