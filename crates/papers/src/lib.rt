@@ -1,5 +1,6 @@
 // Papers: whether two strips, hung endless, are the same paper.
 #![tactic(auto)]
+
 mod places;
 
 ghost use Rattle.std.specs.Prelude.{◌≤◌, ◌<◌, ◌≡◌, length};
