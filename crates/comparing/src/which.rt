@@ -8,7 +8,7 @@ use stock::{Refusal, check_pair};
 // What Which answers: 1 the first, 2 the second, 3 equal, 0 refused; and the first kind from 2 upward at which the reduced strips differ, 0 where the
 // strips are equal or refused.
 #[repr(C)]
-#[derive(Drop)]
+#[derive(Clone, Copy)]
 pub struct Compared {
     pub refusal: Refusal,
     pub which: u8,

@@ -7,7 +7,7 @@ use stock::{Refusal, check_stock};
 
 // What Count answers.
 #[repr(C)]
-#[derive(Drop)]
+#[derive(Clone, Copy)]
 pub struct Counted {
     pub refusal: Refusal,
     pub total: u64,

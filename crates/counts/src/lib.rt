@@ -5,7 +5,7 @@ ghost use Rattle.std.proofs.Math.Option.{none};
 ghost use Rattle.counts.specs.Reading.{takes, read_from, counts_read, line_read};
 
 // What was read: whether the line can be read, how many counts it has, and the counts, in order. 255 bytes hold at most 127 counts.
-#[derive(Drop)]
+#[derive(Clone, Copy)]
 pub struct LineRead {
     pub readable: bool,
     pub kinds: usize,

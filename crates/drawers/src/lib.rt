@@ -8,7 +8,7 @@ use stock::Refusal;
 
 // What the calls that give a number answer, those of `converting` too.
 #[repr(C)]
-#[derive(Drop)]
+#[derive(Clone, Copy)]
 pub struct Filed {
     pub refusal: Refusal,
     pub number: u64,

@@ -9,7 +9,7 @@ use stock::{Refusal, check_strip};
 
 // How the stepping ended: 1 found, 2 none left, 3 stopped; and the steps made.
 #[repr(C)]
-#[derive(Drop)]
+#[derive(Clone, Copy)]
 pub struct Stepped {
     pub refusal: Refusal,
     pub outcome: u8,

@@ -10,7 +10,7 @@ use hanging::is_standing;
 use succession::next_entry;
 
 // How a search ended, and the steps that it made.
-#[derive(Drop)]
+#[derive(Clone, Copy)]
 pub struct Ended {
     pub outcome: u8,
     pub steps: u64,

@@ -7,7 +7,7 @@ use stock::{Refusal, check_strip};
 
 // Whether a strip was reversed, and by how many places it was then turned.
 #[repr(C)]
-#[derive(Drop)]
+#[derive(Clone, Copy)]
 pub struct Stood {
     pub refusal: Refusal,
     pub turn: u64,

@@ -9,7 +9,7 @@ use crate::growing::grown;
 use choose::scale;
 
 // Where a strip stands: how many strips its stock has, 0 where they are 2^64 or more, and else its number.
-#[derive(Drop)]
+#[derive(Clone, Copy)]
 pub struct Entry {
     pub strips: u64,
     pub number: u64,

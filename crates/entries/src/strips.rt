@@ -7,7 +7,7 @@ ghost use Rattle.entries.specs.Picking.{Picked};
 use choose::scale;
 
 // The kind that stands next, counted from 0; how many orders begin with a kind before it, and how many with it.
-#[derive(Drop)]
+#[derive(Clone, Copy)]
 struct Choice {
     kind: usize,
     ahead: u64,

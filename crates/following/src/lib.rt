@@ -7,7 +7,7 @@ use stock::Refusal;
 
 // What reading answers: the moves of the sheet.
 #[repr(C)]
-#[derive(Drop)]
+#[derive(Clone, Copy)]
 pub struct Readout {
     pub refusal: Refusal,
     pub moves: u64,

@@ -13,7 +13,7 @@ use walking::stepping::step;
 
 // What records come to: the bytes of those that are passed, with their moves and the walker behind them; or the number of the refusal that the
 // record behind these bytes meets.
-#[derive(Drop)]
+#[derive(Clone, Copy)]
 pub struct Taken {
     pub no: u8,
     pub walker: Walker,

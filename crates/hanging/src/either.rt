@@ -8,7 +8,7 @@ use crate::least::least_turn;
 use papers::block_at;
 
 // Read backwards or not, and then turned by so many places.
-#[derive(Drop)]
+#[derive(Clone, Copy)]
 pub struct Hanging {
     pub reversed: bool,
     pub turn: usize,

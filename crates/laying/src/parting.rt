@@ -9,7 +9,7 @@ use choose::ends_in_k;
 const SMALL: u64 = 288230376151711743;
 
 // All the patterns of a word, those that end in K, and the index of one of them, each `times` as large as it is.
-#[derive(Drop)]
+#[derive(Clone, Copy)]
 pub struct Shares {
     pub all: u64,
     pub in_k: u64,

@@ -8,7 +8,7 @@ use stock::{Refusal, check_pair};
 
 // What Distance answers.
 #[repr(C)]
-#[derive(Drop)]
+#[derive(Clone, Copy)]
 pub struct Apart {
     pub refusal: Refusal,
     pub moves: i64,

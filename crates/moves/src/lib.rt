@@ -6,7 +6,7 @@ ghost use Rattle.rules.proofs.Index.{rests};
 ghost use Rattle.moves.specs.Steps.{step_of, or_places};
 
 // Two places to exchange, from 0, smaller first. Not found: both 0.
-#[derive(Drop)]
+#[derive(Clone, Copy)]
 pub struct Step {
     pub found: bool,
     pub low: usize,

@@ -8,7 +8,7 @@ use stock::{Refusal, check_strip};
 
 // What Number answers.
 #[repr(C)]
-#[derive(Drop)]
+#[derive(Clone, Copy)]
 pub struct Numbered {
     pub refusal: Refusal,
     pub number: u64,

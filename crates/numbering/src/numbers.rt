@@ -10,7 +10,7 @@ use pattern::{faced, index_of, reduce};
 
 // A strip's place in its book, and the cuts for all its kinds. The cuts are narrower, so that each of the two is read back by itself: both at once takes
 // longer.
-#[derive(Drop)]
+#[derive(Clone, Copy)]
 pub struct Placed {
     pub number: u64,
     pub cuts: u32,

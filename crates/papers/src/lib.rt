@@ -13,7 +13,7 @@ use stock::{Refusal, check_pair};
 
 // What Same paper answers.
 #[repr(C)]
-#[derive(Drop)]
+#[derive(Clone, Copy)]
 pub struct Asked {
     pub refusal: Refusal,
     pub same: bool,

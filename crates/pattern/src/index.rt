@@ -9,7 +9,7 @@ ghost use Rattle.cuts.specs.Cuts.{cuts};
 use choose::{ends_in_k, ends_in_kr, ends_in_rr};
 
 // The index of a word in its list, and how often the rule was used to find it.
-#[derive(Drop)]
+#[derive(Clone, Copy)]
 pub struct Indexed {
     pub index: u64,
     pub cuts: u32,

@@ -17,7 +17,7 @@ use showing::{Shown, show_first, show_next, show_none};
 use stock::{Refusal, check_stock};
 
 // What was read, whether it is the papers that are printed, and the strip that is shown.
-#[derive(Drop)]
+#[derive(Clone, Copy)]
 pub struct Printer {
     pub read: LineRead,
     pub papers: bool,
@@ -25,14 +25,14 @@ pub struct Printer {
 }
 
 // How many bytes of the lent line are the next line, and the printer after it. No bytes: nothing is left to print.
-#[derive(Drop)]
+#[derive(Clone, Copy)]
 pub struct Printed {
     pub length: usize,
     pub printer: Printer,
 }
 
 // The same of a stock: the length of its first line, and the strip that is shown then.
-#[derive(Drop)]
+#[derive(Clone, Copy)]
 pub struct Begun {
     pub length: usize,
     pub shown: Shown,

@@ -5,7 +5,7 @@ ghost use Rattle.rebuilding.specs.Rebuilding.{differing};
 ghost use Rattle.rebuilding.specs.Parts.{Holds, Joins};
 
 // How many differ, and the number of the first of them, from 1; 0 where none does.
-#[derive(Drop)]
+#[derive(Clone, Copy)]
 pub struct Found {
     pub many: u64,
     pub first: u64,

@@ -18,7 +18,7 @@ use stock::{Refusal, check_strip};
 
 // What Replay answers.
 #[repr(C)]
-#[derive(Drop)]
+#[derive(Clone, Copy)]
 pub struct Replayed {
     pub refusal: Refusal,
     pub walked: u64,

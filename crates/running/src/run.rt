@@ -13,7 +13,7 @@ use walking::stepping::make;
 
 // What Run answers.
 #[repr(C)]
-#[derive(Drop)]
+#[derive(Clone, Copy)]
 pub struct Ran {
     pub refusal: Refusal,
     pub moves: u64,

@@ -6,7 +6,7 @@ use stock::Refusal;
 
 // What writing answers: the bytes that the sheet takes.
 #[repr(C)]
-#[derive(Drop)]
+#[derive(Clone, Copy)]
 pub struct Written {
     pub refusal: Refusal,
     pub length: u64,

@@ -13,7 +13,7 @@ use walking::stepping::step;
 
 // A strip, the number of its blocks, its number in the book or in the dictionary, its index among those that are printed, and its walker. No blocks: no
 // strip is shown. The papers need no walker: theirs stays that of the first strip.
-#[derive(Drop)]
+#[derive(Clone, Copy)]
 pub struct Shown {
     pub strip: [u8; 64],
     pub blocks: usize,

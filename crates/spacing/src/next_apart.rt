@@ -11,7 +11,7 @@ use walker::check::check_walker;
 
 // How the search ended: 1 found, 2 none, 3 stopped; the moves made, and the walker of the strip as it then stands.
 #[repr(C)]
-#[derive(Drop)]
+#[derive(Clone, Copy)]
 pub struct Spaced {
     pub refusal: Refusal,
     pub outcome: u8,

@@ -9,7 +9,7 @@ use walking::finding::find;
 use walking::stepping::make;
 
 // How a search ended, the moves that it made, and the walker of the strip as it then stands.
-#[derive(Drop)]
+#[derive(Clone, Copy)]
 pub struct Ended {
     pub outcome: u8,
     pub moves: u64,

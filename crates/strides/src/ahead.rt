@@ -7,7 +7,7 @@ use counting::{patterns_of, total_of};
 use numbering::number_of;
 
 // The number of the strip that a stride leads to, or the number of its refusal.
-#[derive(Drop)]
+#[derive(Clone, Copy)]
 pub struct Ahead {
     pub no: u8,
     pub number: u64,

@@ -3,7 +3,7 @@ use crate::patterns::{Lists, all_k, bit, e, has, turned, uses_at, word_at, words
 use crate::shelf::{Book, Shelf, behind, byte, cuts, put, put_cuts};
 
 // A kind that is laid in: its index from 0, and its words of n letters, which are those of a list.
-#[derive(Drop)]
+#[derive(Clone, Copy)]
 struct Layer {
     j: usize,
     n: usize,

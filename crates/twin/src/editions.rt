@@ -74,7 +74,7 @@ pub fn put_stride(page: &mut Page, at: usize, moves: u64) -> usize {
 }
 
 // Where the next record goes, and where the first stride stands: 0 where there is none.
-#[derive(Drop)]
+#[derive(Clone, Copy)]
 pub struct Spot {
     pub at: usize,
     pub stride: usize,

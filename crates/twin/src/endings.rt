@@ -4,7 +4,7 @@ use stock::Refusal;
 
 // Where the records before an ending lead: the strip's number, how many moves are left from there, how many were made, and the places of the next one;
 // and whether the book has fewer than 2^64 strips.
-#[derive(Drop)]
+#[derive(Clone, Copy)]
 pub struct Stand {
     pub here: usize,
     pub left: usize,
@@ -15,7 +15,7 @@ pub struct Stand {
 }
 
 // A sheet on a page: its bytes and where its first stride stands, 0 where there is none; and what is to come of it.
-#[derive(Drop)]
+#[derive(Clone, Copy)]
 pub struct Case {
     pub length: usize,
     pub stride: usize,
@@ -24,7 +24,7 @@ pub struct Case {
 }
 
 // An ending of up to four bytes, and the number of its refusal.
-#[derive(Drop)]
+#[derive(Clone, Copy)]
 struct Ending {
     bytes: [u8; 4],
     length: usize,

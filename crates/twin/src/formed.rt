@@ -10,7 +10,7 @@ use rewriting::rewrite::rewrite;
 use stock::Refusal;
 
 // So many moves that are to be written, the length of their form, and what they meet where there is room for that.
-#[derive(Drop)]
+#[derive(Clone, Copy)]
 pub struct Order {
     pub moves: u64,
     pub length: usize,

@@ -14,7 +14,7 @@ use stock::Refusal;
 const MOST: usize = 6;
 
 // A page with the one form of some moves, and its length.
-#[derive(Drop)]
+#[derive(Clone, Copy)]
 struct Form {
     page: Page,
     length: usize,
@@ -59,7 +59,7 @@ pub fn compare_sheet(
 }
 
 // A page with the records before an ending.
-#[derive(Drop)]
+#[derive(Clone, Copy)]
 struct Draft {
     page: Page,
     spot: Spot,

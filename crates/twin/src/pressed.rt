@@ -69,7 +69,7 @@ pub fn place(one: &[u8], other: &[u8], last: bool) -> u8 {
 }
 
 // Where a sheet begins: the number of its strip, and how many blocks that has.
-#[derive(Drop)]
+#[derive(Clone, Copy)]
 pub struct Start {
     pub number: usize,
     pub blocks: usize,

@@ -11,7 +11,7 @@ pub const BYTES: usize = 9 * ROWS;
 pub type Shelf = [u8; BYTES];
 
 // A book: its first row, and the row behind its last.
-#[derive(Drop)]
+#[derive(Clone, Copy)]
 pub struct Book {
     pub from: usize,
     pub to: usize,

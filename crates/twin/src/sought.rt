@@ -8,7 +8,7 @@ use stock::Refusal;
 pub type Marks = [bool; MOST];
 
 // Where a search begins: the index of its strip, that of the next marked one, which is behind the last where there is none, and the last index.
-#[derive(Drop)]
+#[derive(Clone, Copy)]
 pub struct Start {
     pub index: usize,
     pub next: usize,
@@ -16,7 +16,7 @@ pub struct Start {
 }
 
 // What is to come of a search: also the index of the strip that is then in the lent one.
-#[derive(Drop)]
+#[derive(Clone, Copy)]
 pub struct Outcome {
     pub outcome: u8,
     pub steps: u64,

@@ -13,7 +13,7 @@ use stock::Refusal;
 const BEFORE: u8 = 238;
 
 // What is to come of a sheet.
-#[derive(Drop)]
+#[derive(Clone, Copy)]
 struct Outcome {
     refusal: Refusal,
     moves: usize,

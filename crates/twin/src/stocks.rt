@@ -4,7 +4,7 @@ ghost use Rattle.std.specs.Prelude.{◌≤◌};
 use crate::patterns::has;
 
 // A stock: its counts, and how many kinds it has.
-#[derive(Drop)]
+#[derive(Clone, Copy)]
 pub struct Parts {
     pub counts: [u16; 8],
     pub kinds: usize,

@@ -8,7 +8,7 @@ use stock::Refusal;
 pub const MOST: usize = 10;
 
 // A replay from the strip of a number, what it is counted as, and what is to come of it: also the number of the strip that is then in the lent one.
-#[derive(Drop)]
+#[derive(Clone, Copy)]
 pub struct Outcome {
     pub from: usize,
     pub call: usize,

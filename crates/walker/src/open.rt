@@ -8,7 +8,7 @@ use stock::{Refusal, check_strip};
 
 // What Open answers.
 #[repr(C)]
-#[derive(Drop)]
+#[derive(Clone, Copy)]
 pub struct Opened {
     pub refusal: Refusal,
     pub walker: Walker,

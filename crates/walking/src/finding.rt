@@ -9,7 +9,7 @@ use moves::{Step, next, prev};
 use walker::Walker;
 
 // The kind that moves, and the two places from 0, smaller first. No move: kind 0.
-#[derive(Drop)]
+#[derive(Clone, Copy)]
 pub struct Found {
     pub kind: usize,
     pub low: usize,
@@ -17,7 +17,7 @@ pub struct Found {
 }
 
 // The two finders of one kind's own move: by the first runs of its word, or by the rule's own recursion. Both promise the same, so no contract names one.
-#[derive(Drop)]
+#[derive(Clone, Copy)]
 enum Finder {
     Left,
     Rule,

@@ -9,7 +9,7 @@ use walker::Walker;
 
 // What Walk answers: the two places that were exchanged, smaller first, and the walker of the strip as it then stands.
 #[repr(C)]
-#[derive(Drop)]
+#[derive(Clone, Copy)]
 pub struct Moved {
     pub refusal: Refusal,
     pub low: u8,
