@@ -1,5 +1,6 @@
 // Laying a kind and a lower strip by the pattern of an index.
 #![tactic(auto)]
+
 mod letters;
 mod parting;
 
