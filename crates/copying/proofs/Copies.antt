@@ -5,21 +5,17 @@ use mathlib.Core.List.{List, ◌++◌, append-nil}
 use native.Mathlib.Nat.{sub-zero, zero-sub, suc-sub-suc}
 use native.Mathlib.Omega.{arith}
 use lib.ListN.{length, take, drop, replicate, length-append, length-replicate, drop_of_length-le}
-use lib.Seq.{take-length, take_at}
+use lib.Seq.{take_at}
 
 -- ---- a copy
 
 -- what a copy leaves
 abbrev pub copied_over : List ℕ → List ℕ → List ℕ
-copied_over s d = take (length s) s ++ drop (length s) d
+copied_over s d = s ++ drop (length s) d
 
-module _ (s d w : List ℕ) (e : w ≡ copied_over s d) where
-  is : w ≡ s ++ drop (length s) d
-  is = e ∙ ap (λ (l : List ℕ). l ++ drop (length s) d) (take-length s)
-
-  -- over a strip of the same length
-  pub copy_whole : length s ≡ length d → w ≡ s
-  copy_whole h = is ∙ rw (drop_of_length-le d {i = length s} (omega arith)) (append-nil s)
+-- over a strip of the same length
+pub copy_whole : (s d w : List ℕ) → w ≡ copied_over s d → length s ≡ length d → w ≡ s
+copy_whole s d w e h = e ∙ rw (drop_of_length-le d {i = length s} (omega arith)) (append-nil s)
 
 -- ---- zeros behind it
 
@@ -30,7 +26,7 @@ zeros_left (suc n) (suc m) = rw (suc-sub-suc n m) (zeros_left n m)
 
 -- over zeros
 pub copy_zeros : (n : ℕ) (s w : List ℕ) → w ≡ copied_over s (replicate n 0) → w ≡ s ++ replicate (n - length s) 0
-copy_zeros n s w e = is s (replicate n 0) w e ∙ rw (zeros_left n (length s))
+copy_zeros n s w e = e ∙ rw (zeros_left n (length s))
 
 module _ (n : ℕ) (s w : List ℕ) (e : w ≡ s ++ replicate (n - length s) 0) where
   pub copy_length : length s ≤ n → length w ≡ n
