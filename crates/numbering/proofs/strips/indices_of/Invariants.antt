@@ -1,0 +1,12 @@
+-- `numbering::strips::indices_of` meets its contract. The measure is the number of kinds that are left.
+use mathlib.Core.List.{[]}
+use lib.ListN.{get_or}
+use Rattle.rules.specs.Book.{book}
+use Rattle.numbering.proofs.Indices.{Descending}
+use Rattle.numbering.proofs.strips.indices_of.Given as goal
+
+abbrev pub invariant-loop-j : goal.invariant-loop-j
+invariant-loop-j l = Descending l.stock (get_or (book l.stock) l.number []) l.indices l.left l.j
+
+abbrev pub decreases-loop-j : goal.decreases-loop-j
+decreases-loop-j l = l.j
