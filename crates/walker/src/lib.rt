@@ -1,5 +1,6 @@
 // The walker of a strip: the direction of each kind.
 #![tactic(auto)]
+
 pub mod check;
 pub mod directions;
 pub mod open;
