@@ -9,7 +9,7 @@ use crate::bodies::{all_zero, check_record, counts_at, lay_in, used_kinds};
 use stock::{Refusal, blocks, check_stock, check_strip_only};
 
 // What is read before the moves: the counts and how many of them are used, the strip in the first of its bytes and how many they are.
-#[derive(Clone, Copy)]
+#[derive(Drop)]
 pub struct Opening {
     pub refusal: Refusal,
     pub counts: [u16; 16],

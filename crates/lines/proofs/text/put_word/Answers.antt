@@ -1,5 +1,5 @@
 -- `lines::text::put_word` meets its contract. The invariant: the rest of the word, written from here on, makes the whole.
-use Prim.Native.Nat.{ℕ, ◌+◌, ◌-◌}
+use Prim.Native.Nat.{ℕ, ◌+◌}
 use mathlib.Core.List.{List, ◌∷◌}
 use native.Mathlib.Numerals.{add-one}
 use native.Mathlib.Omega.{arith}

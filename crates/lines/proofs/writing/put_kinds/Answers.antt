@@ -1,6 +1,6 @@
 -- `lines::writing::put_kinds` meets its contract. The invariant: the kinds that are left, each with a hyphen before it, make the whole.
-use Prim.Native.Nat.{ℕ, ◌+◌, ◌-◌}
-use mathlib.Core.List.{List, ◌∷◌, ◌++◌}
+use Prim.Native.Nat.{◌+◌}
+use mathlib.Core.List.{◌∷◌, ◌++◌}
 use native.Mathlib.Omega.{arith}
 use lib.ListN.{get_or}
 use Rattle.lines.specs.Text.{hyphen, decimal}
@@ -11,42 +11,33 @@ use Rattle.lines.proofs.writing.put_kinds.Goals as goal
 use Rattle.lines.proofs.writing.put_kinds.Goals.{In-loop-i}
 
 -- the next kind with its hyphen, and those after it
-module _ (b : In-loop-i) where
-  abbrev strip : List ℕ
-  strip = b.before.before.before.before.before.before.before.before.before.args.strip.now
-
-  abbrev at_i : ℕ
-  at_i = b.before.loop-i.i
-
-  next : let p = b.before.before.before.before.put_decimal-to in
-      Putting p.last.0 p.result (kinds_from 1 strip) b.before.loop-i.line b.before.loop-i.to (hyphen ∷ (decimal (get_or strip at_i 0) ++ kinds_from (at_i + 1) strip))
-  next = rw (← kinds_next strip at_i b.loop-i-test.taken) b.before.loop-i.inv.2
+next : (b : In-loop-i) → let s = b.args.strip.now in
+    Putting b.put_decimal-to.new.line b.put_decimal-to.result (kinds_from 1 s) b.loop-i.line b.loop-i.to (hyphen ∷ (decimal (get_or s b.loop-i.i 0) ++ kinds_from (b.loop-i.i + 1) s))
+next b = rw (kinds_next b.args.strip.now b.loop-i.i b.loop-i-test.true) at b.loop-i.invariant.2
 
 pub put_decimal-to-requires : goal.put_decimal-to-requires
-put_decimal-to-requires c = (omega (arith, c.shared_slice_known-2-1.given 0), first_fits c.args.line.now c.args.at c.args.strip.now c.requires.0 c.requires.1)
+put_decimal-to-requires c =
+    (omega (arith, c.type_inv.strip 0), first_fits c.args.line.now c.args.at c.args.strip.now c.requires.0 c.requires.1)
 
 pub loop-i-init : goal.loop-i-init
 loop-i-init c =
     (omega arith, omega (arith, c.requires.0), start _ _ _ (others_fit c.args.line.now c.args.at c.args.strip.now c.requires.0 c.requires.1 _ _ c.put_decimal-to.ensures))
 
+pub put_byte-next-requires : goal.put_byte-next-requires
+put_byte-next-requires c = byte_fits (next (goal.at.put_byte-next-requires c).In-loop-i)
+
 pub put_decimal-to-requires-in-loop-i : goal.put_decimal-to-requires-in-loop-i
 put_decimal-to-requires-in-loop-i c =
-    (omega (arith, c.shared_slice_known-in-loop-i-1.given (at_i (goal.at.put_decimal-to-requires-in-loop-i c).In-loop-i)), fits (decimal (get_or (strip (goal.at.put_decimal-to-requires-in-loop-i c).In-loop-i) (at_i (goal.at.put_decimal-to-requires-in-loop-i c).In-loop-i) 0)) (kinds_from (at_i (goal.at.put_decimal-to-requires-in-loop-i c).In-loop-i + 1) (strip (goal.at.put_decimal-to-requires-in-loop-i c).In-loop-i)) (byte_on (next (goal.at.put_decimal-to-requires-in-loop-i c).In-loop-i) c.put_byte-next.ensures))
+    (omega (arith, c.type_inv.strip c.loop-i.i), fits (decimal _) _ (byte_on (next (goal.at.put_decimal-to-requires-in-loop-i c).In-loop-i) c.put_byte-next.ensures))
 
 pub loop-i-preserved : goal.loop-i-preserved
 loop-i-preserved c = (
   omega arith,
   omega arith,
-  on (decimal (get_or (strip (goal.at.loop-i-preserved c).In-loop-i) (at_i (goal.at.loop-i-preserved c).In-loop-i) 0)) (kinds_from (at_i (goal.at.loop-i-preserved c).In-loop-i + 1) (strip (goal.at.loop-i-preserved c).In-loop-i)) (byte_on (next (goal.at.loop-i-preserved c).In-loop-i) c.put_byte-next.ensures) c.put_decimal-to-in-loop-i.ensures,
+  on (decimal _) _ (byte_on (next (goal.at.loop-i-preserved c).In-loop-i) c.put_byte-next.ensures) c.put_decimal-to-in-loop-i.ensures,
 )
 
 pub returns : goal.returns
 returns c =
     all_kinds c.args.line.now c.args.at c.args.strip.now c.requires.0 c.requires.1 _ _ c.put_decimal-to.ensures _ _
     (whole (rw (kinds_end c.args.strip.now c.loop-i.i c.loop-i-test.false) at c.loop-i.invariant.2))
-
-pub bounds-strip-0 : goal.bounds-strip-0
-bounds-strip-0 c = c.requires.0
-
-pub put_byte-next-requires : goal.put_byte-next-requires
-put_byte-next-requires c = byte_fits (next (goal.at.put_byte-next-requires c).In-loop-i)

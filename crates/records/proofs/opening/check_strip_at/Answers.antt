@@ -11,7 +11,7 @@ use Rattle.records.specs.Opened.{strip_at, rest_at, strip_at_nos}
 use Rattle.records.proofs.BodyLaws.{zeros}
 use Rattle.records.proofs.Checking.{record_stopped, record_body, strip_part, rest_part, strip_stopped, strip_padded, strip_unpadded}
 use Rattle.records.proofs.opening.check_strip_at.Goals as goal
-use Rattle.records.proofs.opening.check_strip_at.Goals.{After-all_zero, After-blocks-2, After-check_strip_only-refusal, Else-no-ne0}
+use Rattle.records.proofs.opening.check_strip_at.Goals.{After-check_strip_only-refusal, After-all_zero, Else-no-ne0, After-blocks-2}
 
 body : (c : Else-no-ne0) → c.args.at + 64 < length c.args.sheet.now
 body c = record_body 2 64 _ _ _ c.check_record-refusal.ensures (omega arith)
@@ -21,40 +21,19 @@ blocks_n : (c : After-blocks-2) → c.blocks-2.result ≡ sum c.args.stock.now
 blocks_n c = omega (arith, c.blocks-2.ensures, c.requires.short)
 
 -- the strip that was checked is the record's
-module _ (c : After-check_strip_only-refusal) where
-  abbrev b : tie.After-blocks-2
-  b = c
-
-  abbrev a : tie.Start
-  a = b.before.before.before.before.before
-
-  own : c.check_strip_only-refusal.result ≡ refusal (first_of (strip_nos a.args.stock.now (strip_at a.args.stock.now a.args.at a.args.sheet.now)))
-  own =
-      c.check_strip_only-refusal.ensures
-      ∙ ap (λ (s : List ℕ). refusal (first_of (strip_nos a.args.stock.now s))) (strip_part _ a.pre a.args.at a.args.sheet.now (body b.before) _ (blocks_n b))
+own : (c : After-check_strip_only-refusal) → c.check_strip_only-refusal.result ≡ refusal (first_of (strip_nos c.args.stock.now (strip_at c.args.stock.now c.args.at c.args.sheet.now)))
+own c =
+    let fits : c.args.at + 64 < length c.args.sheet.now = record_body 2 64 _ _ _ c.check_record-refusal.ensures (omega arith) in
+    let n : c.blocks-2.result ≡ sum c.args.stock.now = omega (arith, c.blocks-2.ensures, c.requires.short) in
+    c.check_strip_only-refusal.ensures
+    ∙ ap (λ (s : List ℕ). refusal (first_of (strip_nos c.args.stock.now s))) (strip_part _ c.requires c.args.at c.args.sheet.now fits _ n)
 
 -- the bytes after it are zeros as far as was found
-rest : (c : After-all_zero) → c.all_zero.result ≡ zeros (rest_at (a c).args.stock.now (a c).args.at (a c).args.sheet.now)
+rest : (c : After-all_zero) → c.all_zero.result ≡ zeros (rest_at c.args.stock.now c.args.at c.args.sheet.now)
 rest c =
-    c.all_zero.ensures ∙ ap zeros (rest_part _ (a c).requires (a c).args.at (a c).args.sheet.now (body (b c).before) _ (blocks_n (b c)))
-
-pub returns-then-no-ne0 : goal.returns-then-no-ne0
-unfolding strip_at_nos
-returns-then-no-ne0 c = record_stopped 2 64 _ _ _ c.check_record-refusal.ensures _ (omega arith)
-
-pub returns-then-no-ne0-2 : goal.returns-then-no-ne0-2
-returns-then-no-ne0-2 c =
-    strip_stopped _ c.requires _ _ (body (goal.at.returns-then-no-ne0-2 c).Else-no-ne0) _ (own (goal.at.returns-then-no-ne0-2 c).After-check_strip_only-refusal) _ c.check_record-refusal.ensures (omega arith) (omega arith)
-
-pub returns-then-all_zero : goal.returns-then-all_zero
-returns-then-all_zero c =
-    let e = (b (goal.at.returns-then-all_zero c).After-check_strip_only-refusal).before in
-    strip_padded _ (a (goal.at.returns-then-all_zero c).After-check_strip_only-refusal).requires _ _ (body e) _ (own (goal.at.returns-then-all_zero c).After-check_strip_only-refusal) _ e.before.check_record-refusal.ensures (omega arith) (omega arith) (sym (rest (goal.at.returns-then-all_zero c).After-all_zero) ∙ c.if-all_zero.true)
-
-pub returns : goal.returns
-returns c =
-    let e = (b (goal.at.returns c).After-check_strip_only-refusal).before in
-    strip_unpadded _ (a (goal.at.returns c).After-check_strip_only-refusal).requires _ _ (body e) _ (own (goal.at.returns c).After-check_strip_only-refusal) _ e.before.check_record-refusal.ensures (omega arith) (omega arith) (sym (rest (goal.at.returns c).After-all_zero) ∙ c.if-all_zero.false)
+    let fits : c.args.at + 64 < length c.args.sheet.now = record_body 2 64 _ _ _ c.check_record-refusal.ensures (omega arith) in
+    let n : c.blocks-2.result ≡ sum c.args.stock.now = omega (arith, c.blocks-2.ensures, c.requires.short) in
+    c.all_zero.ensures ∙ ap zeros (rest_part _ c.requires c.args.at c.args.sheet.now fits _ n)
 
 pub overflow_add-first : goal.overflow_add-first
 overflow_add-first c = omega (arith, body (goal.at.overflow_add-first c).Else-no-ne0)
@@ -66,7 +45,8 @@ pub overflow_add-end : goal.overflow_add-end
 overflow_add-end c = omega (arith, body (goal.at.overflow_add-end c).Else-no-ne0)
 
 pub slice_bounds-check_strip_only-end : goal.slice_bounds-check_strip_only-end
-slice_bounds-check_strip_only-end c = omega (arith, body (goal.at.slice_bounds-check_strip_only-end c).Else-no-ne0, blocks_n (goal.at.slice_bounds-check_strip_only-end c).After-blocks-2)
+slice_bounds-check_strip_only-end c =
+    omega (arith, body (goal.at.slice_bounds-check_strip_only-end c).Else-no-ne0, blocks_n (goal.at.slice_bounds-check_strip_only-end c).After-blocks-2)
 
 pub slice_bounds-all_zero-count : goal.slice_bounds-all_zero-count
 slice_bounds-all_zero-count c = omega (arith, blocks_n (goal.at.slice_bounds-all_zero-count c).After-blocks-2)
@@ -76,3 +56,22 @@ slice_bounds-all_zero-start c = omega (arith, blocks_n (goal.at.slice_bounds-all
 
 pub slice_bounds-all_zero-end : goal.slice_bounds-all_zero-end
 slice_bounds-all_zero-end c = omega (arith, body (goal.at.slice_bounds-all_zero-end c).Else-no-ne0)
+
+pub returns-then-no-ne0 : goal.returns-then-no-ne0
+unfolding strip_at_nos
+returns-then-no-ne0 c = record_stopped 2 64 _ _ _ c.check_record-refusal.ensures _ (omega arith)
+
+pub returns-then-no-ne0-2 : goal.returns-then-no-ne0-2
+returns-then-no-ne0-2 c =
+    let p = goal.at.returns-then-no-ne0-2 c in
+    strip_stopped _ c.requires _ _ (body p.Else-no-ne0) _ (own p.After-check_strip_only-refusal) _ c.check_record-refusal.ensures (omega arith) (omega arith)
+
+pub returns-then-all_zero : goal.returns-then-all_zero
+returns-then-all_zero c =
+    let p = goal.at.returns-then-all_zero c in
+    strip_padded _ c.requires _ _ (body p.Else-no-ne0) _ (own p.After-check_strip_only-refusal) _ c.check_record-refusal.ensures (omega arith) (omega arith) (sym (rest p.After-all_zero) ∙ c.if-all_zero.true)
+
+pub returns : goal.returns
+returns c =
+    let p = goal.at.returns c in
+    strip_unpadded _ c.requires _ _ (body p.Else-no-ne0) _ (own p.After-check_strip_only-refusal) _ c.check_record-refusal.ensures (omega arith) (omega arith) (sym (rest p.After-all_zero) ∙ c.if-all_zero.false)
