@@ -1,3 +1,4 @@
 // Measuring how far apart two strips of one stock are: the call Distance.
 #![tactic(auto)]
+
 pub mod distance;
