@@ -1,5 +1,6 @@
 // Touching: whether two of a kind touch in a strip, on a panel or on an endless paper.
 #![tactic(auto)]
+
 ghost use Rattle.std.specs.Prelude.{◌<◌, ◌≡◌, length};
 ghost use Rattle.touching.specs.Apart.{stands_apart};
 ghost use Rattle.touching.specs.Places.{Begins, FreeBehind, IsLast};
