@@ -26,7 +26,7 @@ Lent = Bor (List ℕ)
 
 -- the empty part at the start of a lent strip
 abbrev pub EmptyPart : Lent → Lent → Type 0
-EmptyPart whole part = (part.ref_ptr ≡ whole.ptr) × (part.now ≡ [])
+EmptyPart whole part = (part.ref_ptr ≡ whole.ref_ptr) × (part.now ≡ [])
 
 abbrev pub second_if : Bool → Lent → Lent → Lent
 second_if true first second = second
