@@ -8,7 +8,7 @@ pub mod turning;
 
 // Sixteen directions, kind 1 first: true is backward. Kind 1 and kinds that the stock has not run forward.
 #[repr(C)]
-#[derive(Drop)]
+#[derive(Clone, Copy)]
 pub struct Walker {
     pub back: [bool; 16],
 }
