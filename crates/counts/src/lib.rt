@@ -1,5 +1,6 @@
 // The counts of the line that the printing programs read.
 #![tactic(auto)]
+
 ghost use Rattle.std.specs.Prelude.{◌≤◌, ◌≡◌, false, length};
 ghost use Rattle.std.proofs.Math.Option.{none};
 ghost use Rattle.counts.specs.Reading.{takes, read_from, counts_read, line_read};
