@@ -1,5 +1,6 @@
 // Drawers: the calls on dictionary numbers, as the archive's old drawers have them, one file for each.
 #![tactic(auto)]
+
 pub mod next;
 pub mod number;
 pub mod strip;
