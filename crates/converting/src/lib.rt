@@ -1,5 +1,6 @@
 // Converting: between the book's numbers and dictionary numbers. The strip of a number in the one list, and the number of that strip in the other.
 #![tactic(auto)]
+
 ghost use Rattle.std.specs.Prelude.{◌^◌, ◌<◌, ◌≡◌, not, [], get_or};
 ghost use Rattle.rules.specs.Stock.{total, IsStock, IsStrip};
 ghost use Rattle.rules.specs.Book.{place_in};
