@@ -17,7 +17,7 @@ pub struct Found {
 }
 
 // The two finders of one kind's own move: by the first runs of its word, or by the rule's own recursion. Both promise the same, so no contract names one.
-#[derive(Drop)]
+#[derive(Clone, Copy)]
 enum Finder {
     Left,
     Rule,
