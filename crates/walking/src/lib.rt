@@ -1,5 +1,6 @@
 // Walking: moving a strip on and back through its book.
 #![tactic(auto)]
+
 pub mod finding;
 pub mod stepping;
 pub mod walk;
