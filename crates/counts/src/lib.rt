@@ -83,6 +83,7 @@ fn read_counts(line: &[u8]) -> LineRead
 }
 
 // The counts of a line: it ends with a line feed, and has at most 255 bytes.
+#[tactic(auto, using(crate::proofs::ReadOn::no_bytes, crate::proofs::ReadOn::long_line, crate::proofs::ReadOn::no_feed))]
 pub fn read_line(input: &[u8]) -> LineRead
     ensures { result ≡ line_read (counts_read input.now) }
 {
