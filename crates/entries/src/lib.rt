@@ -1,5 +1,6 @@
 // Entries: the number of a strip in the dictionary of its stock, and the strip of a number. The functions behind the calls.
 #![tactic(auto)]
+
 mod growing;
 mod numbers;
 mod strips;
