@@ -20,8 +20,8 @@ number_fits : (c : Else-more-eq0) → let l = c.loop-i in
     l.number + l.orders * c.lower_kinds-less.result / (get_or l.seen (get_or c.args.strip.now (l.i - 1) 0) 0 + 1) < 2 ^ 64
 number_fits c =
     let l = c.loop-i in
-    let made = turn c.args.stock.now c.args.strip.now l.seen c.requires.0 c.requires.1 l.orders l.number l.n l.i l.invariant c.loop-i-test.true in
-    made.number_fits _ _ c.grown-more.ensures (omega arith) c.lower_kinds-less.ensures
+    let m = turn c.args.stock.now c.args.strip.now l.seen c.requires.0 c.requires.1 l.orders l.number l.n l.i l.invariant c.loop-i-test.true in
+    m.number_fits _ _ c.grown-more.ensures (omega arith) c.lower_kinds-less.ensures
 
 pub loop-i-init : goal.loop-i-init
 loop-i-init c = tail_none c.args.stock.now c.args.strip.now

@@ -1,5 +1,5 @@
 -- `entries::numbers::lower_kinds` meets its contract. The invariant: the sum of the first j.
-use Prim.Native.Nat.{◌+◌, ◌-◌}
+use Prim.Native.Nat.{◌+◌}
 use mathlib.Core.Path.{◌≡◌, refl}
 use native.Mathlib.Numerals.{add-one}
 use native.Mathlib.Omega.{arith}

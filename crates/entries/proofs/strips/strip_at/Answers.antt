@@ -1,5 +1,5 @@
 -- `entries::strips::strip_at` meets its contract. The invariant: i blocks are laid.
-use Prim.Native.Nat.{◌+◌, ◌-◌}
+use Prim.Native.Nat.{◌+◌}
 use mathlib.Core.Path.{refl, ◌∙◌}
 use native.Mathlib.Omega.{arith}
 use lib.ListN.{length-set}
