@@ -1,0 +1,12 @@
+-- `writing::sheet::write_sheet` meets its contract: refused by 1 to 6, or as checked input is answered.
+use native.Mathlib.Omega.{arith}
+use Rattle.rules.proofs.Checks.{accepted_both}
+use Rattle.stock.proofs.Tested.{passed}
+use Rattle.sheets.proofs.Called.{refused}
+use Rattle.writing.proofs.sheet.write_sheet.Goals as goal
+
+pub returns-then-no-ne0 : goal.returns-then-no-ne0
+returns-then-no-ne0 c = refused _ _ _ _ _ _ _ c.check_strip-checked.ensures (omega arith)
+
+pub write_moves-requires : goal.write_moves-requires
+write_moves-requires c = accepted_both _ _ (passed _ _ c.check_strip-checked.ensures (omega arith))
