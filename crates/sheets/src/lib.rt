@@ -1,5 +1,6 @@
 // Press sheets: what the calls on them answer, and writing their records.
 #![tactic(auto)]
+
 pub mod records;
 
 use stock::Refusal;
