@@ -3,8 +3,7 @@ ghost use Rattle.std.specs.Prelude.{◌≡◌};
 ghost use Rattle.endless.specs.Answers.{next_paper_answer, next_paper_after};
 
 use crate::seek::seek;
-use bytes::copy;
-use copying::copied;
+use copying::{copied, copy};
 use stock::{Refusal, check_strip};
 
 // How the stepping ended: 1 found, 2 none left, 3 stopped; and the steps made.

@@ -1,50 +1,41 @@
 -- Proofs. A strip with parts of it in reverse order: the strip reversed, and then turned round.
 use Prim.Native.Nat.{ℕ, ◌-◌, ◌≤◌}
-use mathlib.Core.Path.{◌≡◌, refl, sym, ap, ◌∙◌}
+use mathlib.Core.Path.{◌≡◌, sym, ap, ◌∙◌}
 use mathlib.Core.Bool.{Bool, true, not, not-not}
 use mathlib.Core.List.{List, ◌++◌, reverse, reverse-append, append-nil}
 use native.Mathlib.Omega.{arith}
+use borrow.Rule.Slice.PartMut.{put_mid, mid_of}
 use lib.ListN.{length, take, drop, length-append, length-drop, length-reverse, take-append-drop, drop_of_length-le}
 use lib.Seq.{length-take-le, take_all, take_at, drop_at}
 use Rattle.rules.specs.Book.{turn}
-use Rattle.bytes.specs.Bytes.{rev, slice}
 use Rattle.papers.specs.Papers.{turned, hung}
 use Rattle.papers.proofs.Turning.{hung_length, hung_hung}
-
--- a strip with a part of it in reverse order
-abbrev pub reversed_part : ℕ → ℕ → List ℕ → List ℕ
-reversed_part from to s = take from s ++ (rev (slice from to s) ++ drop to s)
-
--- the whole
-pub reversed_whole : (s a : List ℕ) → a ≡ reversed_part 0 (length s) s → a ≡ hung true s
-unfolding rev slice turn
-reversed_whole s a e = e ∙ rw (take_all (length s) s (omega arith), drop_of_length-le s {i = length s} (omega arith)) (append-nil (reverse s))
 
 -- the other way, and that reversed
 hung_other : (back : Bool) (s : List ℕ) → hung true (hung (not back) s) ≡ hung back s
 hung_other back s = hung_hung true (not back) s ∙ ap (λ (b : Bool). hung b s) (not-not back)
 
 module _ (f : ℕ) (s : List ℕ) (h : f ≤ length s) where
-  -- the first f blocks
-  first_part : reversed_part 0 f s ≡ reverse (take f s) ++ drop f s
-  unfolding rev slice
-  first_part = refl
-
   first_length : length (reverse (take f s)) ≡ f
   first_length = length-reverse (take f s) ∙ length-take-le f s h
 
-  whole_length : length (reverse (take f s) ++ drop f s) ≡ length s
-  whole_length = length-append (reverse (take f s)) (drop f s) ∙ omega (arith, first_length, length-drop f s)
+  -- the first f blocks are in reverse order
+  abbrev half : List ℕ
+  half = reverse (take f s) ++ drop f s
+
+  half_length : length half ≡ length s
+  half_length = length-append (reverse (take f s)) (drop f s) ∙ omega (arith, first_length, length-drop f s)
 
   -- then the others
-  both_parts : reversed_part f (length s) (reverse (take f s) ++ drop f s) ≡ reverse (take f s) ++ reverse (drop f s)
-  unfolding rev slice
-  both_parts =
+  both_parts : (y : List ℕ) → y ≡ reverse (mid_of f (length half - f) half) → put_mid f (length half - f) half y ≡ reverse (take f s) ++ reverse (drop f s)
+  both_parts y e =
+      let long : length (drop f s) ≤ length half - f = omega (arith, half_length, length-drop f s) in
       rw (
+        e,
         take_at (reverse (take f s)) (drop f s) f first_length,
-        take_all (length s) (reverse (take f s) ++ drop f s) (omega (arith, whole_length)),
         drop_at (reverse (take f s)) (drop f s) f first_length,
-        drop_of_length-le (reverse (take f s) ++ drop f s) {i = length s} (omega (arith, whole_length)),
+        take_all (length half - f) (drop f s) long,
+        drop_of_length-le (drop f s) {i = length half - f} long,
       )
       (ap (λ (l : List ℕ). reverse (take f s) ++ l) (append-nil (reverse (drop f s))))
 
@@ -56,8 +47,8 @@ module _ (f : ℕ) (s : List ℕ) (h : f ≤ length s) where
       let l : length (reverse (drop f s)) ≡ length s - f = length-reverse (drop f s) ∙ length-drop f s in
       sym (rw (e, drop_at (reverse (drop f s)) (reverse (take f s)) (length s - f) l, take_at (reverse (drop f s)) (reverse (take f s)) (length s - f) l))
 
-  pub parts_reversed : (a b : List ℕ) → a ≡ reversed_part 0 f s → b ≡ reversed_part f (length s) a → b ≡ turned (length s - f) (hung true s)
-  parts_reversed a b e g = g ∙ ap (reversed_part f (length s)) (e ∙ first_part) ∙ both_parts ∙ parts_turned
+  pub parts_reversed : (x y : List ℕ) → x ≡ reverse (take f s) → y ≡ reverse (mid_of f (length (x ++ drop f s) - f) (x ++ drop f s)) → put_mid f (length (x ++ drop f s) - f) (x ++ drop f s) y ≡ turned (length s - f) (hung true s)
+  parts_reversed x y e g = rw e (both_parts y (rw e at g) ∙ parts_turned)
 
 -- a strip that hangs the other way, so reversed, hangs as it should, turned by t places
 pub hangs_so : (s : List ℕ) (back : Bool) (t f : ℕ) (other after : List ℕ) → length s - f ≡ t → other ≡ hung (not back) s → after ≡ turned (length other - f) (hung true other) → after ≡ turned t (hung back s)

@@ -1,5 +1,6 @@
 // Hanging: whether a strip stands for its endless paper, and hanging one so that it does.
 #![tactic(auto)]
+
 mod either;
 mod least;
 mod reversing;

@@ -1,5 +1,5 @@
 -- Proofs. The turns of a strip, as it stands and foot up: each is a turn of each other. What is proved of standing strips leans on `turns_self` to `turns_strip` alone.
-use Prim.Native.Nat.{ℕ, ◌+◌, ◌<◌}
+use Prim.Native.Nat.{ℕ, ◌<◌}
 use mathlib.Core.Path.{◌≡◌, refl, sym, ap, ◌∙◌}
 use mathlib.Core.Bool.{Bool, true, false}
 use mathlib.Core.List.{List, [], ◌∷◌, ◌++◌, reverse-append, reverse, append-nil, append_assoc}

@@ -1,0 +1,11 @@
+-- `hanging::stands::some_before` meets its contract. The invariant: none of the turns passed comes before the strip.
+use Prim.Native.Nat.{◌+◌, ◌*◌, ◌-◌, ◌≤◌, ◌<◌}
+use lib.ListN.{length}
+use Rattle.hanging.proofs.SomeBefore.{NoneBefore}
+use Rattle.hanging.proofs.stands.some_before.Given as goal
+
+abbrev pub invariant-loop-t : goal.invariant-loop-t
+invariant-loop-t l = (l.t ≤ 2 * length l.strip) × (l.k < length l.strip) × NoneBefore l.strip l.back l.t l.k
+
+abbrev pub decreases-loop-t : goal.decreases-loop-t
+decreases-loop-t l = 3 * length l.strip - (l.t + l.k)
