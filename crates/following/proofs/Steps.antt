@@ -1,6 +1,6 @@
 -- Proofs. What following a sheet comes to, by the record at the byte where it stands.
 use Prim.Native.Nat.{ℕ, zero, suc, ◌+◌, ◌-◌, ◌≤◌, ◌<◌}
-use mathlib.Core.Path.{◌≡◌, refl, ap, ◌∙◌}
+use mathlib.Core.Path.{◌≡◌, refl, ap, ◌∙◌, sym, subst}
 use mathlib.Core.Bool.{Bool, true, false, not, ◌&&◌, and-false}
 use mathlib.Core.List.{List, [], ◌∷◌}
 use native.Mathlib.Numerals.{add-one}
@@ -50,7 +50,10 @@ module _ (strides : Bool) (counts s : List ℕ) where
 
       pub whole_stride : 8 ≤ length rest → follow strides counts s at (kind ∷ rest) ≡ if_made (first_of (stride_nos counts s (value (take 8 rest)))) (value (take 8 rest)) at (follow_past strides counts (onward counts s (value (take 8 rest))) (at + 1) 8 rest)
       unfolding follow_past along
-      whole_stride l = rw (two, ne_eqb kind 3 (omega arith), eq-eqb kind 5 stride, le-ltb (length rest) 8 l)
+      whole_stride l =
+          subst (λ (b : Bool). follow b counts s at (kind ∷ rest) ≡ if_made (first_of (stride_nos counts s (value (take 8 rest)))) (value (take 8 rest)) at (follow_past b counts (onward counts s (value (take 8 rest))) (at + 1) 8 rest))
+          (sym two)
+          (rw (ne_eqb kind 3 (omega arith), eq-eqb kind 5 stride, le-ltb (length rest) 8 l))
 
 -- ---- by the sheet and the byte
 

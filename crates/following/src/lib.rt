@@ -1,5 +1,6 @@
 // Following the records of a press sheet from its strip to its end.
 #![tactic(auto)]
+
 pub mod moves;
 mod record;
 
