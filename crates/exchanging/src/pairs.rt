@@ -21,6 +21,7 @@ fn is_pair(low: u8, high: u8, n: usize) -> bool
 }
 
 // The number, from 1, of the first pair that is not so, or of half a pair at the end; 0 where there is none.
+#[tactic(auto, using(bar::proofs::Pairs::sought_start, bar::proofs::Pairs::sought_wrong, bar::proofs::Pairs::sought_on, bar::proofs::Pairs::sought_half, bar::proofs::Pairs::sought_none))]
 fn wrong_pair(pairs: &[u8], n: usize) -> u64
     ensures { result ≡ wrong_from 1 n pairs.now }
 {
@@ -42,6 +43,7 @@ fn wrong_pair(pairs: &[u8], n: usize) -> u64
 
 // The first refusal of a list of pairs: 15, then 16. strips is T of the stock, which is not looked at itself, or 0 where T is 2^64 or more; n is the sum
 // of its counts.
+#[tactic(auto, using(bar::proofs::Refused::fifteen_many, bar::proofs::Refused::fifteen, bar::proofs::Refused::sixteen, bar::proofs::Refused::neither))]
 pub fn check_pairs(stock: &[u16], strips: u64, n: usize, pairs: &[u8]) -> Refusal
     requires { (strips ≡ unless (many_no stock.now) 0 (total stock.now)) × (n ≡ sum stock.now) }
     ensures { result ≡ refusal (first_of (large_no stock.now ∷ pairs_no stock.now pairs.now ∷ [])) }
