@@ -3,8 +3,7 @@ ghost use Rattle.std.specs.Prelude.{◌≡◌};
 ghost use Rattle.spacing.specs.Answers.{next_apart_answer, next_apart_after};
 
 use crate::seek::seek;
-use bytes::copy;
-use copying::copied;
+use copying::{copied, copy};
 use stock::Refusal;
 use walker::Walker;
 use walker::check::check_walker;
