@@ -1,4 +1,4 @@
-/* The strip book for C: the calls of target/staticlib/libexports.a, which `rt staticlib exports` proves and builds.
+/* The strip book for C: the calls of target/staticlib/libexports.a, which `./library` proves and builds.
  *
  * WORDS
  *   stock    how many blocks there are of each kind: 1 to 16 counts, the last not 0, their sum n at most 64.

@@ -6,7 +6,6 @@ use walker::Walker;
 use walking::Moved;
 use walking::walk::walk;
 
-#[unsafe(no_mangle)]
 pub extern "C" fn nelfrupi_drive(
     stock: &[u16],
     strip: &mut [u8],

@@ -53,42 +53,36 @@ use walking::Moved;
 use walking::walk::walk;
 use writing::sheet::write_sheet;
 
-#[unsafe(no_mangle)]
 pub extern "C" fn nelfrupi_count(stock: &[u16]) -> Counted
     ensures { result ≡ count_answer stock.now }
 {
     count(stock)
 }
 
-#[unsafe(no_mangle)]
 pub extern "C" fn nelfrupi_first(stock: &[u16], buffer: &mut [u8]) -> Refusal
     ensures { (result ≡ first_answer stock.now buffer.old) × (buffer.new ≡ first_after stock.now buffer.old) }
 {
     first(stock, buffer)
 }
 
-#[unsafe(no_mangle)]
 pub extern "C" fn nelfrupi_number(stock: &[u16], strip: &[u8]) -> Numbered
     ensures { result ≡ number_answer stock.now strip.now }
 {
     number(stock, strip)
 }
 
-#[unsafe(no_mangle)]
 pub extern "C" fn nelfrupi_strip(stock: &[u16], number: u64, buffer: &mut [u8]) -> Refusal
     ensures { (result ≡ strip_answer stock.now number buffer.old) × (buffer.new ≡ strip_after stock.now number buffer.old) }
 {
     strip(stock, number, buffer)
 }
 
-#[unsafe(no_mangle)]
 pub extern "C" fn nelfrupi_dictionary_number(stock: &[u16], strip: &[u8]) -> Filed
     ensures { result ≡ dictionary_number_answer stock.now strip.now }
 {
     dictionary_number(stock, strip)
 }
 
-#[unsafe(no_mangle)]
 pub extern "C" fn nelfrupi_dictionary_strip(
     stock: &[u16],
     number: u64,
@@ -99,49 +93,42 @@ pub extern "C" fn nelfrupi_dictionary_strip(
     dictionary_strip(stock, number, buffer)
 }
 
-#[unsafe(no_mangle)]
 pub extern "C" fn nelfrupi_dictionary_next(stock: &[u16], strip: &mut [u8]) -> Refusal
     ensures { (result ≡ dictionary_next_answer stock.now strip.old) × (strip.new ≡ dictionary_next_after stock.now strip.old) }
 {
     dictionary_next(stock, strip)
 }
 
-#[unsafe(no_mangle)]
 pub extern "C" fn nelfrupi_to_dictionary(stock: &[u16], number: u64) -> Filed
     ensures { result ≡ to_dictionary_answer stock.now number }
 {
     to_dictionary(stock, number)
 }
 
-#[unsafe(no_mangle)]
 pub extern "C" fn nelfrupi_to_book(stock: &[u16], number: u64) -> Filed
     ensures { result ≡ to_book_answer stock.now number }
 {
     to_book(stock, number)
 }
 
-#[unsafe(no_mangle)]
 pub extern "C" fn nelfrupi_which(stock: &[u16], first: &[u8], second: &[u8]) -> Compared
     ensures { result ≡ which_answer stock.now first.now second.now }
 {
     which(stock, first, second)
 }
 
-#[unsafe(no_mangle)]
 pub extern "C" fn nelfrupi_distance(stock: &[u16], first: &[u8], second: &[u8]) -> Apart
     ensures { result ≡ distance_answer stock.now first.now second.now }
 {
     distance(stock, first, second)
 }
 
-#[unsafe(no_mangle)]
 pub extern "C" fn nelfrupi_open(stock: &[u16], strip: &[u8]) -> Opened
     ensures { result ≡ open_answer stock.now strip.now }
 {
     open(stock, strip)
 }
 
-#[unsafe(no_mangle)]
 pub extern "C" fn nelfrupi_walk(
     stock: &[u16],
     strip: &mut [u8],
@@ -153,7 +140,6 @@ pub extern "C" fn nelfrupi_walk(
     walk(stock, strip, walker, back)
 }
 
-#[unsafe(no_mangle)]
 pub extern "C" fn nelfrupi_run(
     stock: &[u16],
     strip: &mut [u8],
@@ -166,7 +152,6 @@ pub extern "C" fn nelfrupi_run(
     run(stock, strip, walker, back, list)
 }
 
-#[unsafe(no_mangle)]
 pub extern "C" fn nelfrupi_next_apart(
     stock: &[u16],
     strip: &mut [u8],
@@ -179,35 +164,30 @@ pub extern "C" fn nelfrupi_next_apart(
     next_apart(stock, strip, walker, endless, moves)
 }
 
-#[unsafe(no_mangle)]
 pub extern "C" fn nelfrupi_replay(stock: &[u16], strip: &mut [u8], pairs: &[u8]) -> Replayed
     ensures { (result ≡ replay_answer stock.now strip.old pairs.now) × (strip.new ≡ replay_after stock.now strip.old pairs.now) }
 {
     replay(stock, strip, pairs)
 }
 
-#[unsafe(no_mangle)]
 pub extern "C" fn nelfrupi_same_paper(stock: &[u16], first: &[u8], second: &[u8]) -> Asked
     ensures { result ≡ same_paper_answer stock.now first.now second.now }
 {
     same_paper(stock, first, second)
 }
 
-#[unsafe(no_mangle)]
 pub extern "C" fn nelfrupi_stand(stock: &[u16], strip: &mut [u8]) -> Stood
     ensures { (result ≡ stand_answer stock.now strip.old) × (strip.new ≡ stand_after stock.now strip.old) }
 {
     stand(stock, strip)
 }
 
-#[unsafe(no_mangle)]
 pub extern "C" fn nelfrupi_next_paper(stock: &[u16], strip: &mut [u8], steps: u64) -> Stepped
     ensures { (result ≡ next_paper_answer stock.now strip.old steps) × (strip.new ≡ next_paper_after stock.now strip.old steps) }
 {
     next_paper(stock, strip, steps)
 }
 
-#[unsafe(no_mangle)]
 pub extern "C" fn nelfrupi_write_sheet(
     stock: &[u16],
     strip: &[u8],
@@ -219,21 +199,18 @@ pub extern "C" fn nelfrupi_write_sheet(
     write_sheet(stock, strip, moves, sheet)
 }
 
-#[unsafe(no_mangle)]
 pub extern "C" fn nelfrupi_read_sheet(sheet: &[u8], buffer: &mut [u8]) -> Readout
     ensures { (result ≡ read_answer false sheet.now buffer.old) × (buffer.new ≡ read_buffer false sheet.now buffer.old) }
 {
     read_sheet(sheet, buffer)
 }
 
-#[unsafe(no_mangle)]
 pub extern "C" fn nelfrupi_rebuild(sheet: &[u8], out: &mut [u8]) -> Rebuilt
     ensures { (result ≡ rebuild_answer sheet.now out.old) × (out.new ≡ rebuild_out sheet.now out.old) }
 {
     rebuild(sheet, out)
 }
 
-#[unsafe(no_mangle)]
 pub extern "C" fn nelfrupi_write_long(
     stock: &[u16],
     strip: &[u8],
@@ -245,14 +222,12 @@ pub extern "C" fn nelfrupi_write_long(
     write_long(stock, strip, moves, sheet)
 }
 
-#[unsafe(no_mangle)]
 pub extern "C" fn nelfrupi_read_editions(sheet: &[u8], buffer: &mut [u8]) -> Readout
     ensures { (result ≡ read_answer true sheet.now buffer.old) × (buffer.new ≡ read_buffer true sheet.now buffer.old) }
 {
     read_editions(sheet, buffer)
 }
 
-#[unsafe(no_mangle)]
 pub extern "C" fn nelfrupi_rewrite(sheet: &[u8], out: &mut [u8]) -> Written
     ensures { (result ≡ rewrite_answer sheet.now out.old) × (out.new ≡ rewrite_out sheet.now out.old) }
 {

@@ -4,37 +4,38 @@ use converting::{to_book, to_dictionary};
 use drawers::next::dictionary_next;
 use drawers::number::dictionary_number;
 use drawers::strip::dictionary_strip;
+use std::io::{self, Stdout};
 
-pub fn of_number(stock: &[u16], blocks: &[u8]) {
-    say::call_on(b"Dictionary number", stock, blocks);
+pub fn of_number(stdout: Stdout, stock: &[u16], blocks: &[u8]) -> io::Result<()> {
+    say::call_on(stdout, b"Dictionary number", stock, blocks)?;
     let filed = dictionary_number(stock, blocks);
     let refusal = filed.refusal;
-    say::number(refusal, filed.number);
+    say::number(stdout, refusal, filed.number)
 }
 
 // The strip stays in the lent buffer.
-pub fn of_strip(stock: &[u16], at: u64, buffer: &mut [u8]) {
-    say::call_at(b"Dictionary strip", stock, at);
+pub fn of_strip(stdout: Stdout, stock: &[u16], at: u64, buffer: &mut [u8]) -> io::Result<()> {
+    say::call_at(stdout, b"Dictionary strip", stock, at)?;
     let refused = dictionary_strip(stock, at, buffer);
-    say::blocks(refused, buffer);
+    say::blocks(stdout, refused, buffer)
 }
 
-pub fn of_next(stock: &[u16], blocks: &mut [u8]) {
-    say::call_on(b"Dictionary next", stock, blocks);
+pub fn of_next(stdout: Stdout, stock: &[u16], blocks: &mut [u8]) -> io::Result<()> {
+    say::call_on(stdout, b"Dictionary next", stock, blocks)?;
     let refused = dictionary_next(stock, blocks);
-    say::blocks(refused, blocks);
+    say::blocks(stdout, refused, blocks)
 }
 
-pub fn of_to_dictionary(stock: &[u16], at: u64) {
-    say::call_at(b"To dictionary", stock, at);
+pub fn of_to_dictionary(stdout: Stdout, stock: &[u16], at: u64) -> io::Result<()> {
+    say::call_at(stdout, b"To dictionary", stock, at)?;
     let filed = to_dictionary(stock, at);
     let refusal = filed.refusal;
-    say::number(refusal, filed.number);
+    say::number(stdout, refusal, filed.number)
 }
 
-pub fn of_to_book(stock: &[u16], at: u64) {
-    say::call_at(b"To book", stock, at);
+pub fn of_to_book(stdout: Stdout, stock: &[u16], at: u64) -> io::Result<()> {
+    say::call_at(stdout, b"To book", stock, at)?;
     let filed = to_book(stock, at);
     let refusal = filed.refusal;
-    say::number(refusal, filed.number);
+    say::number(stdout, refusal, filed.number)
 }

@@ -5,57 +5,70 @@ use measuring::distance::distance;
 use numbering::number::number;
 use numbering::strip::strip;
 use running::run::run;
+use std::io::{self, Stdout};
 use walker::open::open;
 use walking::walk::walk;
 
-pub fn of_count(stock: &[u16]) {
-    say::call(b"Count", stock);
+pub fn of_count(stdout: Stdout, stock: &[u16]) -> io::Result<()> {
+    say::call(stdout, b"Count", stock)?;
     let counted = count(stock);
     let refusal = counted.refusal;
-    say::number(refusal, counted.total);
+    say::number(stdout, refusal, counted.total)
 }
 
-pub fn of_number(stock: &[u16], blocks: &[u8]) {
-    say::call_on(b"Number", stock, blocks);
+pub fn of_number(stdout: Stdout, stock: &[u16], blocks: &[u8]) -> io::Result<()> {
+    say::call_on(stdout, b"Number", stock, blocks)?;
     let numbered = number(stock, blocks);
     let refusal = numbered.refusal;
-    say::number(refusal, numbered.number);
+    say::number(stdout, refusal, numbered.number)
 }
 
 // The strip stays in the lent buffer.
-pub fn of_strip(stock: &[u16], at: u64, buffer: &mut [u8]) {
-    say::call_at(b"Strip", stock, at);
+pub fn of_strip(stdout: Stdout, stock: &[u16], at: u64, buffer: &mut [u8]) -> io::Result<()> {
+    say::call_at(stdout, b"Strip", stock, at)?;
     let refused = strip(stock, at, buffer);
-    say::blocks(refused, buffer);
+    say::blocks(stdout, refused, buffer)
 }
 
 // From the first strip of a book to a far one: only whether it is refused is of interest.
-pub fn of_distance(stock: &[u16], first: &[u8], to: &[u8]) {
-    say::call_on(b"Distance from the first", stock, to);
+pub fn of_distance(stdout: Stdout, stock: &[u16], first: &[u8], to: &[u8]) -> io::Result<()> {
+    say::call_on(stdout, b"Distance from the first", stock, to)?;
     let apart = distance(stock, first, to);
     let refusal = apart.refusal;
-    say::refusal(refusal);
+    say::refusal(stdout, refusal)
 }
 
 // Walk or Run, and the direction.
-fn directed(on: &[u8], backward: &[u8], stock: &[u16], blocks: &[u8], back: bool) {
+fn directed(
+    stdout: Stdout,
+    on: &[u8],
+    backward: &[u8],
+    stock: &[u16],
+    blocks: &[u8],
+    back: bool,
+) -> io::Result<()> {
     if back {
-        say::call_on(backward, stock, blocks);
-        return;
+        return say::call_on(stdout, backward, stock, blocks);
     }
-    say::call_on(on, stock, blocks);
+    say::call_on(stdout, on, stock, blocks)
 }
 
-pub fn of_walk(stock: &[u16], blocks: &mut [u8], back: bool) {
-    directed(b"Walk on", b"Walk back", stock, blocks, back);
+pub fn of_walk(stdout: Stdout, stock: &[u16], blocks: &mut [u8], back: bool) -> io::Result<()> {
+    directed(stdout, b"Walk on", b"Walk back", stock, blocks, back)?;
     let opened = open(stock, blocks);
     let walker = opened.walker;
-    say::places(walk(stock, blocks, walker, back));
+    say::places(stdout, walk(stock, blocks, walker, back))
 }
 
-pub fn of_run(stock: &[u16], blocks: &mut [u8], back: bool, list: &mut [u8]) {
-    directed(b"Run on", b"Run back", stock, blocks, back);
+pub fn of_run(
+    stdout: Stdout,
+    stock: &[u16],
+    blocks: &mut [u8],
+    back: bool,
+    list: &mut [u8],
+) -> io::Result<()> {
+    directed(stdout, b"Run on", b"Run back", stock, blocks, back)?;
     let opened = open(stock, blocks);
     let walker = opened.walker;
-    say::moves(run(stock, blocks, walker, back, list));
+    say::moves(stdout, run(stock, blocks, walker, back, list))
 }

@@ -1,131 +1,134 @@
 // The parts of a printed line: the call with what it is lent, and what came.
-use io::{print_decimal, write_all};
 use rebuilding::Rebuilt;
 use running::run::Ran;
+use std::io::{self, Stdout};
 use stock::Refusal;
 use walking::Moved;
 
 // Words, then a number.
-fn said(words: &[u8], number: u64) {
-    write_all(1, words);
-    print_decimal(1, number);
+fn said(stdout: Stdout, words: &[u8], number: u64) -> io::Result<()> {
+    stdout.write_all(words)?;
+    stdout.print(number)
 }
 
-fn count(amount: u16) {
-    said(b" ", amount as u64);
+fn count(stdout: Stdout, amount: u16) -> io::Result<()> {
+    said(stdout, b" ", amount as u64)
 }
 
-fn block(kind: u8) {
-    print_decimal(1, kind as u64);
+fn block(stdout: Stdout, kind: u8) -> io::Result<()> {
+    stdout.print(kind as u64)
 }
 
 // The blocks, with nothing between.
-fn strip(blocks: &[u8]) {
+fn strip(stdout: Stdout, blocks: &[u8]) -> io::Result<()> {
     let mut i = 0;
     while i < blocks.len() {
-        block(blocks[i]);
+        block(stdout, blocks[i])?;
         i += 1;
     }
+    Ok(())
 }
 
 // A call and its counts.
-pub fn call(name: &[u8], stock: &[u16]) {
-    write_all(1, name);
-    write_all(1, b", counts");
+pub fn call(stdout: Stdout, name: &[u8], stock: &[u16]) -> io::Result<()> {
+    stdout.write_all(name)?;
+    stdout.write_all(b", counts")?;
     let mut i = 0;
     while i < stock.len() {
-        count(stock[i]);
+        count(stdout, stock[i])?;
         i += 1;
     }
+    Ok(())
 }
 
 // A call, its counts and its strip.
-pub fn call_on(name: &[u8], stock: &[u16], blocks: &[u8]) {
-    call(name, stock);
-    write_all(1, b", strip ");
-    strip(blocks);
+pub fn call_on(stdout: Stdout, name: &[u8], stock: &[u16], blocks: &[u8]) -> io::Result<()> {
+    call(stdout, name, stock)?;
+    stdout.write_all(b", strip ")?;
+    strip(stdout, blocks)
 }
 
 // A call, its counts and its number.
-pub fn call_at(name: &[u8], stock: &[u16], number: u64) {
-    call(name, stock);
-    said(b", number ", number);
+pub fn call_at(stdout: Stdout, name: &[u8], stock: &[u16], number: u64) -> io::Result<()> {
+    call(stdout, name, stock)?;
+    said(stdout, b", number ", number)
 }
 
 // Rebuilding, with its counts, its strip and its moves, in so many bytes of which one is spoiled.
-pub fn call_sheet(stock: &[u16], blocks: &[u8], moves: u64, bytes: u64, spoiled: u64) {
-    call_on(b"Rebuild", stock, blocks);
-    said(b", moves ", moves);
-    said(b", bytes ", bytes);
-    said(b", spoiled at ", spoiled);
+pub fn call_sheet(
+    stdout: Stdout,
+    stock: &[u16],
+    blocks: &[u8],
+    moves: u64,
+    bytes: u64,
+    spoiled: u64,
+) -> io::Result<()> {
+    call_on(stdout, b"Rebuild", stock, blocks)?;
+    said(stdout, b", moves ", moves)?;
+    said(stdout, b", bytes ", bytes)?;
+    said(stdout, b", spoiled at ", spoiled)
 }
 
 // The number and the place of a refusal: 0 and 0 where the call was not refused.
-pub fn refusal(refused: Refusal) {
-    said(b": refusal ", refused.no as u64);
-    said(b" place ", refused.place);
-    write_all(1, b"\n");
+pub fn refusal(stdout: Stdout, refused: Refusal) -> io::Result<()> {
+    said(stdout, b": refusal ", refused.no as u64)?;
+    said(stdout, b" place ", refused.place)?;
+    stdout.write_all(b"\n")
 }
 
 // The refusal, or the number where the call was not refused.
-pub fn number(refused: Refusal, found: u64) {
+pub fn number(stdout: Stdout, refused: Refusal, found: u64) -> io::Result<()> {
     let no = refused.no;
     if no != 0 {
-        refusal(refused);
-        return;
+        return refusal(stdout, refused);
     }
-    said(b": ", found);
-    write_all(1, b"\n");
+    said(stdout, b": ", found)?;
+    stdout.write_all(b"\n")
 }
 
 // The refusal, or the strip.
-pub fn blocks(refused: Refusal, found: &[u8]) {
+pub fn blocks(stdout: Stdout, refused: Refusal, found: &[u8]) -> io::Result<()> {
     let no = refused.no;
     if no != 0 {
-        refusal(refused);
-        return;
+        return refusal(stdout, refused);
     }
-    write_all(1, b": ");
-    strip(found);
-    write_all(1, b"\n");
+    stdout.write_all(b": ")?;
+    strip(stdout, found)?;
+    stdout.write_all(b"\n")
 }
 
 // The refusal, or the two places.
-pub fn places(moved: Moved) {
+pub fn places(stdout: Stdout, moved: Moved) -> io::Result<()> {
     let refused = moved.refusal;
     if refused.no != 0 {
-        refusal(refused);
-        return;
+        return refusal(stdout, refused);
     }
-    said(b": places ", moved.low as u64);
-    said(b" ", moved.high as u64);
-    write_all(1, b"\n");
+    said(stdout, b": places ", moved.low as u64)?;
+    said(stdout, b" ", moved.high as u64)?;
+    stdout.write_all(b"\n")
 }
 
 // The moves made, and yes where the strip is at the end of the book.
-pub fn moves(ran: Ran) {
+pub fn moves(stdout: Stdout, ran: Ran) -> io::Result<()> {
     let refused = ran.refusal;
     if refused.no != 0 {
-        refusal(refused);
-        return;
+        return refusal(stdout, refused);
     }
-    said(b": moves ", ran.moves);
+    said(stdout, b": moves ", ran.moves)?;
     if ran.ended {
-        write_all(1, b", yes\n");
-        return;
+        return stdout.write_all(b", yes\n");
     }
-    write_all(1, b", no\n");
+    stdout.write_all(b", no\n")
 }
 
 // The refusal, or the moves, how many differed and the first of them.
-pub fn rebuilt(found: Rebuilt) {
+pub fn rebuilt(stdout: Stdout, found: Rebuilt) -> io::Result<()> {
     let refused = found.refusal;
     if refused.no != 0 {
-        refusal(refused);
-        return;
+        return refusal(stdout, refused);
     }
-    said(b": moves ", found.moves);
-    said(b", differing ", found.differing);
-    said(b", first ", found.first);
-    write_all(1, b"\n");
+    said(stdout, b": moves ", found.moves)?;
+    said(stdout, b", differing ", found.differing)?;
+    said(stdout, b", first ", found.first)?;
+    stdout.write_all(b"\n")
 }

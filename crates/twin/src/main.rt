@@ -9,6 +9,7 @@
 // list of up to four bytes from 0 to 5 is replayed, right or wrong. Of one book that no number of 64 bits counts, the first strips and the last are written
 // down, and its sheets compared.
 #![tactic(auto)]
+
 mod books;
 mod compare;
 mod cuts;
@@ -47,6 +48,7 @@ use books::build;
 use compare::compare_book;
 use patterns::{Lists, bit};
 use shelf::{BYTES, Book, Shelf, cuts_of, rows_of};
+use std::io;
 use stocks::{cut, first_counts};
 use tally::Tally;
 use vast::compare_vast;
@@ -128,11 +130,11 @@ fn compare_all(lists: &Lists, tally: &mut Tally) {
     }
 }
 
-fn main() {
+fn main(rt: HostRuntime) -> io::Result<()> {
     let mut lists: Lists = [0; 4608];
     let mut tally: Tally = [0; 128];
     patterns::fill(&mut lists);
     compare_all(&lists, &mut tally);
     compare_vast(&mut tally);
-    tally::print(&tally);
+    tally::print(rt.stdout(), &tally)
 }

@@ -1,5 +1,5 @@
 // How often each call was compared with a book, and how often it disagreed.
-use io::{print_decimal, write_all};
+use std::io::{self, Stdout};
 
 pub type Tally = [u64; 128];
 
@@ -116,112 +116,140 @@ pub fn note(tally: &mut Tally, call: usize, agrees: bool) {
     }
 }
 
-fn said(words: &[u8], number: u64) {
-    write_all(1, words);
-    print_decimal(1, number);
+fn said(stdout: Stdout, words: &[u8], number: u64) -> io::Result<()> {
+    stdout.write_all(words)?;
+    stdout.print(number)
 }
 
-fn line(words: &[u8], tally: &Tally, call: usize) {
+fn line(stdout: Stdout, words: &[u8], tally: &Tally, call: usize) -> io::Result<()> {
     if call < 64 {
-        said(words, tally[call]);
-        said(b" compared, ", tally[call + 64]);
-        write_all(1, b" disagreed\n");
+        said(stdout, words, tally[call])?;
+        said(stdout, b" compared, ", tally[call + 64])?;
+        stdout.write_all(b" disagreed\n")?;
     }
+    Ok(())
 }
 
-fn print_single(tally: &Tally) {
-    line(b"Count: ", tally, COUNT);
-    line(b"First: ", tally, FIRST);
-    line(b"Number: ", tally, NUMBER);
-    line(b"Cuts that Number reports: ", tally, CUTS);
-    line(b"Strip: ", tally, STRIP);
-    line(b"Open: ", tally, OPEN);
+fn print_single(stdout: Stdout, tally: &Tally) -> io::Result<()> {
+    line(stdout, b"Count: ", tally, COUNT)?;
+    line(stdout, b"First: ", tally, FIRST)?;
+    line(stdout, b"Number: ", tally, NUMBER)?;
+    line(stdout, b"Cuts that Number reports: ", tally, CUTS)?;
+    line(stdout, b"Strip: ", tally, STRIP)?;
+    line(stdout, b"Open: ", tally, OPEN)
 }
 
-fn print_moves(tally: &Tally) {
-    line(b"Walk on: ", tally, WALK_ON);
-    line(b"Walk back: ", tally, WALK_BACK);
-    line(b"Run: ", tally, RUN);
-    line(b"Moves that Run lists: ", tally, LISTED);
+fn print_moves(stdout: Stdout, tally: &Tally) -> io::Result<()> {
+    line(stdout, b"Walk on: ", tally, WALK_ON)?;
+    line(stdout, b"Walk back: ", tally, WALK_BACK)?;
+    line(stdout, b"Run: ", tally, RUN)?;
+    line(stdout, b"Moves that Run lists: ", tally, LISTED)
 }
 
-fn print_pairs(tally: &Tally) {
-    line(b"Which: ", tally, WHICH);
-    line(b"Kind that Which reports: ", tally, KIND);
-    line(b"Earlier: ", tally, EARLIER);
-    line(b"Distance: ", tally, DISTANCE);
+fn print_pairs(stdout: Stdout, tally: &Tally) -> io::Result<()> {
+    line(stdout, b"Which: ", tally, WHICH)?;
+    line(stdout, b"Kind that Which reports: ", tally, KIND)?;
+    line(stdout, b"Earlier: ", tally, EARLIER)?;
+    line(stdout, b"Distance: ", tally, DISTANCE)
 }
 
-fn print_dictionary(tally: &Tally) {
-    line(b"Dictionary number: ", tally, DICTIONARY_NUMBER);
-    line(b"Dictionary strip: ", tally, DICTIONARY_STRIP);
-    line(b"Dictionary next: ", tally, DICTIONARY_NEXT);
-    line(b"To dictionary: ", tally, TO_DICTIONARY);
-    line(b"To book: ", tally, TO_BOOK);
+fn print_dictionary(stdout: Stdout, tally: &Tally) -> io::Result<()> {
+    line(stdout, b"Dictionary number: ", tally, DICTIONARY_NUMBER)?;
+    line(stdout, b"Dictionary strip: ", tally, DICTIONARY_STRIP)?;
+    line(stdout, b"Dictionary next: ", tally, DICTIONARY_NEXT)?;
+    line(stdout, b"To dictionary: ", tally, TO_DICTIONARY)?;
+    line(stdout, b"To book: ", tally, TO_BOOK)
 }
 
-fn print_papers(tally: &Tally) {
-    line(b"Same paper: ", tally, SAME_PAPER);
+fn print_papers(stdout: Stdout, tally: &Tally) -> io::Result<()> {
+    line(stdout, b"Same paper: ", tally, SAME_PAPER)?;
     line(
+        stdout,
         b"Same paper, by the standing strips: ",
         tally,
         SAME_STANDING,
-    );
-    line(b"Stand: ", tally, STAND);
-    line(b"Stand again: ", tally, STAND_AGAIN);
-    line(b"Next paper: ", tally, NEXT_PAPER);
-    line(b"Next apart, panel: ", tally, APART_PANEL);
-    line(b"Next apart, endless: ", tally, APART_ENDLESS);
+    )?;
+    line(stdout, b"Stand: ", tally, STAND)?;
+    line(stdout, b"Stand again: ", tally, STAND_AGAIN)?;
+    line(stdout, b"Next paper: ", tally, NEXT_PAPER)?;
+    line(stdout, b"Next apart, panel: ", tally, APART_PANEL)?;
+    line(stdout, b"Next apart, endless: ", tally, APART_ENDLESS)
 }
 
-fn print_sheets(tally: &Tally) {
-    line(b"Rebuild, cut or longer: ", tally, REBUILT_CUT);
-    line(b"Rebuild, one byte spoiled: ", tally, REBUILT_BYTE);
+fn print_sheets(stdout: Stdout, tally: &Tally) -> io::Result<()> {
+    line(stdout, b"Rebuild, cut or longer: ", tally, REBUILT_CUT)?;
+    line(stdout, b"Rebuild, one byte spoiled: ", tally, REBUILT_BYTE)?;
     line(
+        stdout,
         b"Rebuild, all spoiled from a byte on: ",
         tally,
         REBUILT_TAIL,
-    );
+    )
 }
 
-fn print_replays(tally: &Tally) {
-    line(b"Replay, moves on or back: ", tally, REPLAY_MOVES);
-    line(b"Replay, exchanges by hand: ", tally, REPLAY_EXCHANGES);
-    line(b"Replay, refused for its total: ", tally, REPLAY_LARGE);
-    line(b"Replay, refused for a pair: ", tally, REPLAY_WRONG);
+fn print_replays(stdout: Stdout, tally: &Tally) -> io::Result<()> {
+    line(stdout, b"Replay, moves on or back: ", tally, REPLAY_MOVES)?;
+    line(
+        stdout,
+        b"Replay, exchanges by hand: ",
+        tally,
+        REPLAY_EXCHANGES,
+    )?;
+    line(
+        stdout,
+        b"Replay, refused for its total: ",
+        tally,
+        REPLAY_LARGE,
+    )?;
+    line(stdout, b"Replay, refused for a pair: ", tally, REPLAY_WRONG)
 }
 
-fn print_readers(tally: &Tally) {
-    line(b"Read editions: ", tally, READ_RIGHT);
-    line(b"Read editions, refused by 7: ", tally, READ_VAST);
-    line(b"Read editions, refused by 11: ", tally, READ_UNKNOWN);
-    line(b"Read editions, refused by 12: ", tally, READ_PAST);
-    line(b"Read editions, refused by 17: ", tally, READ_LOW);
-    line(b"Read sheet, without strides: ", tally, READ_SHEET);
-    line(b"Read sheet, with strides: ", tally, READ_SHEET_STRIDE);
+fn print_readers(stdout: Stdout, tally: &Tally) -> io::Result<()> {
+    line(stdout, b"Read editions: ", tally, READ_RIGHT)?;
+    line(stdout, b"Read editions, refused by 7: ", tally, READ_VAST)?;
+    line(
+        stdout,
+        b"Read editions, refused by 11: ",
+        tally,
+        READ_UNKNOWN,
+    )?;
+    line(stdout, b"Read editions, refused by 12: ", tally, READ_PAST)?;
+    line(stdout, b"Read editions, refused by 17: ", tally, READ_LOW)?;
+    line(stdout, b"Read sheet, without strides: ", tally, READ_SHEET)?;
+    line(
+        stdout,
+        b"Read sheet, with strides: ",
+        tally,
+        READ_SHEET_STRIDE,
+    )
 }
 
-fn print_forms(tally: &Tally) {
-    line(b"Write long: ", tally, WRITE_LONG);
-    line(b"Write long, refused: ", tally, WRITE_LONG_REFUSED);
-    line(b"Rewrite: ", tally, REWRITE);
-    line(b"Rewrite, refused by 13: ", tally, REWRITE_ROOM);
-    line(b"Rewrite, refused as reading: ", tally, REWRITE_REFUSED);
-    line(b"Rewrite again: ", tally, REWRITE_AGAIN);
+fn print_forms(stdout: Stdout, tally: &Tally) -> io::Result<()> {
+    line(stdout, b"Write long: ", tally, WRITE_LONG)?;
+    line(stdout, b"Write long, refused: ", tally, WRITE_LONG_REFUSED)?;
+    line(stdout, b"Rewrite: ", tally, REWRITE)?;
+    line(stdout, b"Rewrite, refused by 13: ", tally, REWRITE_ROOM)?;
+    line(
+        stdout,
+        b"Rewrite, refused as reading: ",
+        tally,
+        REWRITE_REFUSED,
+    )?;
+    line(stdout, b"Rewrite again: ", tally, REWRITE_AGAIN)
 }
 
 // Count is compared once a stock, and Number once a strip.
-pub fn print(tally: &Tally) {
-    said(b"Stocks: ", tally[COUNT]);
-    said(b"\nStrips: ", tally[NUMBER]);
-    write_all(1, b"\n");
-    print_single(tally);
-    print_moves(tally);
-    print_pairs(tally);
-    print_dictionary(tally);
-    print_papers(tally);
-    print_sheets(tally);
-    print_replays(tally);
-    print_readers(tally);
-    print_forms(tally);
+pub fn print(stdout: Stdout, tally: &Tally) -> io::Result<()> {
+    said(stdout, b"Stocks: ", tally[COUNT])?;
+    said(stdout, b"\nStrips: ", tally[NUMBER])?;
+    stdout.write_all(b"\n")?;
+    print_single(stdout, tally)?;
+    print_moves(stdout, tally)?;
+    print_pairs(stdout, tally)?;
+    print_dictionary(stdout, tally)?;
+    print_papers(stdout, tally)?;
+    print_sheets(stdout, tally)?;
+    print_replays(stdout, tally)?;
+    print_readers(stdout, tally)?;
+    print_forms(stdout, tally)
 }
