@@ -1,4 +1,5 @@
 // Reading press sheets.
 #![tactic(auto)]
+
 mod moves;
 pub mod reader;
