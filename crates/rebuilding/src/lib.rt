@@ -1,5 +1,6 @@
 // Rebuilding a damaged press sheet.
 #![tactic(auto)]
+
 mod differing;
 pub mod rebuild;
 
