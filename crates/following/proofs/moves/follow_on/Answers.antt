@@ -12,9 +12,6 @@ use Rattle.following.proofs.moves.follow_on.Goals.{After-take_records-taken, At-
 ready : (c : At-loop-at) → Checked c.args.stock.now c.loop-at.strip c.loop-at.walker
 ready c = checked _ _ _ _ _ _ _ _ c.loop-at.invariant c.requires.stock
 
-kept : (c : At-loop-at) → length c.loop-at.strip ≡ length c.args.strip.now
-kept c = same_strip _ _ _ _ _ _ _ _ c.loop-at.invariant _ c.requires.strip
-
 -- records: what is said of them
 byte : (c : After-take_records-taken) → c.loop-at.at + c.take_records-taken.result.bytes < 2 ^ 64
 byte c = byte_fits _ _ _ _ _ _ _ _ c.loop-at.invariant _ _ c.take_records-taken.ensures c.well_formed.0.0

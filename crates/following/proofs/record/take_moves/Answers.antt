@@ -12,9 +12,6 @@ use Rattle.following.proofs.record.take_moves.Goals.{At-loop-at, else-loop-at-te
 ready : (c : At-loop-at) → Checked c.args.stock.now c.loop-at.strip c.loop-at.walker
 ready c = moving_checked _ _ _ _ _ _ _ _ c.loop-at.invariant c.requires.0.stock
 
-kept : (c : At-loop-at) → length c.loop-at.strip ≡ length c.args.strip.now
-kept c = moving_long _ _ _ _ _ _ _ _ c.loop-at.invariant c.requires.0.strip
-
 pub loop-at-init : goal.loop-at-init
 loop-at-init c = begin _ _ _ _ _ c.requires.0 c.requires.1 c.requires.2
 

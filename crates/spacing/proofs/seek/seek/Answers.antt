@@ -14,9 +14,6 @@ use Rattle.spacing.proofs.seek.seek.Goals.{After-make-made, At-loop-m, Else-move
 ready : (c : At-loop-m) → Checked c.args.stock.now c.loop-m.strip c.loop-m.walker
 ready c = checked _ _ _ _ _ _ _ _ c.requires.stock c.requires.strip c.loop-m.invariant
 
-kept : (c : At-loop-m) → length c.loop-m.strip ≡ length c.args.strip.now
-kept c = same_strip _ _ _ _ _ _ _ _ c.requires.stock c.requires.strip c.loop-m.invariant
-
 -- a move is found, and may be made
 found : (c : Else-moves-given) → let m = c.find-m.result in Makes false c.args.stock.now c.loop-m.strip m.kind m.low m.high
 found c = move _ _ _ _ _ _ _ _ c.requires.stock c.requires.strip c.loop-m.invariant _ c.find-m.ensures c.if-kind-eq0.false
@@ -24,9 +21,6 @@ found c = move _ _ _ _ _ _ _ _ c.requires.stock c.requires.strip c.loop-m.invari
 -- and is made
 below : (c : After-make-made) → c.loop-m.moves ≡ c.args.given → ⊥
 below c = omega (arith, c.if-moves-given.false)
-
-long : (c : After-make-made) → length c.make-made.new.strip ≡ length c.args.strip.now
-long c = next_length _ _ _ _ _ _ _ _ c.requires.stock c.requires.strip c.loop-m.invariant _ c.find-m.ensures c.if-kind-eq0.false (below c) _ _ c.make-made.ensures
 
 pub returns-then-kind-eq0 : goal.returns-then-kind-eq0
 returns-then-kind-eq0 c =

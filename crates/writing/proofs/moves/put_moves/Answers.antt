@@ -15,9 +15,6 @@ use Rattle.writing.proofs.moves.put_moves.Goals.{At-loop-listed, In-loop-listed}
 ready : (c : At-loop-listed) → Checked c.args.stock.now c.loop-listed.strip c.loop-listed.walker
 ready c = let p = c.requires.0 in checked false _ _ _ _ _ p.stock p.strip c.loop-listed.invariant.1.walked
 
-kept : (c : At-loop-listed) → length c.loop-listed.strip ≡ length c.args.strip.now
-kept c = let p = c.requires.0 in same_length false _ _ _ _ _ p.stock p.strip c.loop-listed.invariant.1.walked
-
 rest_kept : (c : At-loop-listed) → length c.loop-listed.rest ≡ length c.args.rest.now
 rest_kept c = same_long _ _ _ _ c.loop-listed.invariant.1.filled
 

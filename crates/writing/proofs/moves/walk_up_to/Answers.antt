@@ -14,9 +14,6 @@ use Rattle.writing.proofs.moves.walk_up_to.Goals.{At-loop-made}
 ready : (c : At-loop-made) → Checked c.args.stock.now c.loop-made.strip c.loop-made.walker
 ready c = let p = c.requires in checked false _ _ _ _ _ p.stock p.strip c.loop-made.invariant.1
 
-kept : (c : At-loop-made) → length c.loop-made.strip ≡ length c.args.strip.now
-kept c = let p = c.requires in same_length false _ _ _ _ _ p.stock p.strip c.loop-made.invariant.1
-
 pub returns-then-no-ne0 : goal.returns-then-no-ne0
 returns-then-no-ne0 c =
     let p = c.requires in
