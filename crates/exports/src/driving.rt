@@ -6,12 +6,7 @@ use walker::Walker;
 use walking::Moved;
 use walking::walk::walk;
 
-pub extern "C" fn nelfrupi_drive(
-    stock: &[u16],
-    strip: &mut [u8],
-    walker: &mut Walker,
-    back: bool,
-) -> Moved
+pub fn nelfrupi_drive(stock: &[u16], strip: &mut [u8], walker: &mut Walker, back: bool) -> Moved
     ensures { (result ≡ move_answer back stock.now strip.old walker.old) × (strip.new ≡ move_strip back stock.now strip.old walker.old) × (walker.new ≡ result.walker) }
 {
     let m = walk(stock, strip, *walker, back);

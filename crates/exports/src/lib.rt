@@ -1,5 +1,6 @@
 // The open calls for C. Each has the contract of the call that it passes on; include/nelfrupi.h tells a C programmer what it says.
 #![tactic(auto)]
+
 pub mod driving;
 
 ghost use Rattle.std.specs.Prelude.{◌≡◌, true, false};
@@ -53,94 +54,85 @@ use walking::Moved;
 use walking::walk::walk;
 use writing::sheet::write_sheet;
 
-pub extern "C" fn nelfrupi_count(stock: &[u16]) -> Counted
+pub fn nelfrupi_count(stock: &[u16]) -> Counted
     ensures { result ≡ count_answer stock.now }
 {
     count(stock)
 }
 
-pub extern "C" fn nelfrupi_first(stock: &[u16], buffer: &mut [u8]) -> Refusal
+pub fn nelfrupi_first(stock: &[u16], buffer: &mut [u8]) -> Refusal
     ensures { (result ≡ first_answer stock.now buffer.old) × (buffer.new ≡ first_after stock.now buffer.old) }
 {
     first(stock, buffer)
 }
 
-pub extern "C" fn nelfrupi_number(stock: &[u16], strip: &[u8]) -> Numbered
+pub fn nelfrupi_number(stock: &[u16], strip: &[u8]) -> Numbered
     ensures { result ≡ number_answer stock.now strip.now }
 {
     number(stock, strip)
 }
 
-pub extern "C" fn nelfrupi_strip(stock: &[u16], number: u64, buffer: &mut [u8]) -> Refusal
+pub fn nelfrupi_strip(stock: &[u16], number: u64, buffer: &mut [u8]) -> Refusal
     ensures { (result ≡ strip_answer stock.now number buffer.old) × (buffer.new ≡ strip_after stock.now number buffer.old) }
 {
     strip(stock, number, buffer)
 }
 
-pub extern "C" fn nelfrupi_dictionary_number(stock: &[u16], strip: &[u8]) -> Filed
+pub fn nelfrupi_dictionary_number(stock: &[u16], strip: &[u8]) -> Filed
     ensures { result ≡ dictionary_number_answer stock.now strip.now }
 {
     dictionary_number(stock, strip)
 }
 
-pub extern "C" fn nelfrupi_dictionary_strip(
-    stock: &[u16],
-    number: u64,
-    buffer: &mut [u8],
-) -> Refusal
+pub fn nelfrupi_dictionary_strip(stock: &[u16], number: u64, buffer: &mut [u8]) -> Refusal
     ensures { (result ≡ dictionary_strip_answer stock.now number buffer.old) × (buffer.new ≡ dictionary_strip_after stock.now number buffer.old) }
 {
     dictionary_strip(stock, number, buffer)
 }
 
-pub extern "C" fn nelfrupi_dictionary_next(stock: &[u16], strip: &mut [u8]) -> Refusal
+pub fn nelfrupi_dictionary_next(stock: &[u16], strip: &mut [u8]) -> Refusal
     ensures { (result ≡ dictionary_next_answer stock.now strip.old) × (strip.new ≡ dictionary_next_after stock.now strip.old) }
 {
     dictionary_next(stock, strip)
 }
 
-pub extern "C" fn nelfrupi_to_dictionary(stock: &[u16], number: u64) -> Filed
+pub fn nelfrupi_to_dictionary(stock: &[u16], number: u64) -> Filed
     ensures { result ≡ to_dictionary_answer stock.now number }
 {
     to_dictionary(stock, number)
 }
 
-pub extern "C" fn nelfrupi_to_book(stock: &[u16], number: u64) -> Filed
+pub fn nelfrupi_to_book(stock: &[u16], number: u64) -> Filed
     ensures { result ≡ to_book_answer stock.now number }
 {
     to_book(stock, number)
 }
 
-pub extern "C" fn nelfrupi_which(stock: &[u16], first: &[u8], second: &[u8]) -> Compared
+pub fn nelfrupi_which(stock: &[u16], first: &[u8], second: &[u8]) -> Compared
     ensures { result ≡ which_answer stock.now first.now second.now }
 {
     which(stock, first, second)
 }
 
-pub extern "C" fn nelfrupi_distance(stock: &[u16], first: &[u8], second: &[u8]) -> Apart
+pub fn nelfrupi_distance(stock: &[u16], first: &[u8], second: &[u8]) -> Apart
     ensures { result ≡ distance_answer stock.now first.now second.now }
 {
     distance(stock, first, second)
 }
 
-pub extern "C" fn nelfrupi_open(stock: &[u16], strip: &[u8]) -> Opened
+pub fn nelfrupi_open(stock: &[u16], strip: &[u8]) -> Opened
     ensures { result ≡ open_answer stock.now strip.now }
 {
     open(stock, strip)
 }
 
-pub extern "C" fn nelfrupi_walk(
-    stock: &[u16],
-    strip: &mut [u8],
-    walker: Walker,
-    back: bool,
-) -> Moved
+pub fn nelfrupi_walk(stock: &[u16], strip: &mut [u8], walker: Walker, back: bool) -> Moved
     ensures { (result ≡ move_answer back stock.now strip.old walker) × (strip.new ≡ move_strip back stock.now strip.old walker) }
 {
     walk(stock, strip, walker, back)
 }
 
-pub extern "C" fn nelfrupi_run(
+pub fn nelfrupi_run(
     stock: &[u16],
     strip: &mut [u8],
     walker: Walker,
@@ -152,7 +144,7 @@ pub extern "C" fn nelfrupi_run(
     run(stock, strip, walker, back, list)
 }
 
-pub extern "C" fn nelfrupi_next_apart(
+pub fn nelfrupi_next_apart(
     stock: &[u16],
     strip: &mut [u8],
     walker: Walker,
@@ -164,71 +156,61 @@ pub extern "C" fn nelfrupi_next_apart(
     next_apart(stock, strip, walker, endless, moves)
 }
 
-pub extern "C" fn nelfrupi_replay(stock: &[u16], strip: &mut [u8], pairs: &[u8]) -> Replayed
+pub fn nelfrupi_replay(stock: &[u16], strip: &mut [u8], pairs: &[u8]) -> Replayed
     ensures { (result ≡ replay_answer stock.now strip.old pairs.now) × (strip.new ≡ replay_after stock.now strip.old pairs.now) }
 {
     replay(stock, strip, pairs)
 }
 
-pub extern "C" fn nelfrupi_same_paper(stock: &[u16], first: &[u8], second: &[u8]) -> Asked
+pub fn nelfrupi_same_paper(stock: &[u16], first: &[u8], second: &[u8]) -> Asked
     ensures { result ≡ same_paper_answer stock.now first.now second.now }
 {
     same_paper(stock, first, second)
 }
 
-pub extern "C" fn nelfrupi_stand(stock: &[u16], strip: &mut [u8]) -> Stood
+pub fn nelfrupi_stand(stock: &[u16], strip: &mut [u8]) -> Stood
     ensures { (result ≡ stand_answer stock.now strip.old) × (strip.new ≡ stand_after stock.now strip.old) }
 {
     stand(stock, strip)
 }
 
-pub extern "C" fn nelfrupi_next_paper(stock: &[u16], strip: &mut [u8], steps: u64) -> Stepped
+pub fn nelfrupi_next_paper(stock: &[u16], strip: &mut [u8], steps: u64) -> Stepped
     ensures { (result ≡ next_paper_answer stock.now strip.old steps) × (strip.new ≡ next_paper_after stock.now strip.old steps) }
 {
     next_paper(stock, strip, steps)
 }
 
-pub extern "C" fn nelfrupi_write_sheet(
-    stock: &[u16],
-    strip: &[u8],
-    moves: u64,
-    sheet: &mut [u8],
-) -> Written
+pub fn nelfrupi_write_sheet(stock: &[u16], strip: &[u8], moves: u64, sheet: &mut [u8]) -> Written
     ensures { (result ≡ write_answer stock.now strip.now moves sheet.old) × (sheet.new ≡ sheet_written stock.now strip.now moves sheet.old) }
 {
     write_sheet(stock, strip, moves, sheet)
 }
 
-pub extern "C" fn nelfrupi_read_sheet(sheet: &[u8], buffer: &mut [u8]) -> Readout
+pub fn nelfrupi_read_sheet(sheet: &[u8], buffer: &mut [u8]) -> Readout
     ensures { (result ≡ read_answer false sheet.now buffer.old) × (buffer.new ≡ read_buffer false sheet.now buffer.old) }
 {
     read_sheet(sheet, buffer)
 }
 
-pub extern "C" fn nelfrupi_rebuild(sheet: &[u8], out: &mut [u8]) -> Rebuilt
+pub fn nelfrupi_rebuild(sheet: &[u8], out: &mut [u8]) -> Rebuilt
     ensures { (result ≡ rebuild_answer sheet.now out.old) × (out.new ≡ rebuild_out sheet.now out.old) }
 {
     rebuild(sheet, out)
 }
 
-pub extern "C" fn nelfrupi_write_long(
-    stock: &[u16],
-    strip: &[u8],
-    moves: u64,
-    sheet: &mut [u8],
-) -> Written
+pub fn nelfrupi_write_long(stock: &[u16], strip: &[u8], moves: u64, sheet: &mut [u8]) -> Written
     ensures { (result ≡ long_answer stock.now strip.now moves sheet.old) × (sheet.new ≡ long_sheet stock.now strip.now moves sheet.old) }
 {
     write_long(stock, strip, moves, sheet)
 }
 
-pub extern "C" fn nelfrupi_read_editions(sheet: &[u8], buffer: &mut [u8]) -> Readout
+pub fn nelfrupi_read_editions(sheet: &[u8], buffer: &mut [u8]) -> Readout
     ensures { (result ≡ read_answer true sheet.now buffer.old) × (buffer.new ≡ read_buffer true sheet.now buffer.old) }
 {
     read_editions(sheet, buffer)
 }
 
-pub extern "C" fn nelfrupi_rewrite(sheet: &[u8], out: &mut [u8]) -> Written
+pub fn nelfrupi_rewrite(sheet: &[u8], out: &mut [u8]) -> Written
     ensures { (result ≡ rewrite_answer sheet.now out.old) × (out.new ≡ rewrite_out sheet.now out.old) }
 {
     rewrite(sheet, out)
