@@ -13,7 +13,7 @@ use Rattle.rules.proofs.Walk.{Move}
 use Rattle.rules.proofs.Strips.{strip_sum}
 use Rattle.rules.proofs.Places.{same_self}
 use Rattle.walking.specs.Answers.{along, left_along, beside}
-use Rattle.walking.proofs.OneMove.{Makes, made as move-made}
+use Rattle.walking.proofs.OneMove.{Makes, made as move_made}
 use Rattle.walking.proofs.Along.{left_allowed, along_none, along_strip, along_left, along_beside}
 use Rattle.running.specs.Answers.{moves_from}
 use Rattle.bar.specs.Bar.{exchanged, made, stood, last_of, final_strip, is_next, next_ones, walked}
@@ -113,7 +113,7 @@ module _ (d : Bool) (counts s : List ℕ) (h : IsStrip counts s) where
     further : Replays (suc m)
     further =
         let own = along_strip d counts s h m (omega arith) in
-        some_move (move-made d counts t own (left_allowed d counts t (omega (arith, along_left d counts s h m (omega arith)))))
+        some_move (move_made d counts t own (left_allowed d counts t (omega (arith, along_left d counts s h m (omega arith)))))
 
   pub replays : (m : ℕ) → m ≤ left_along d counts s → Replays m
   unfolding moves_from made last_of next_ones

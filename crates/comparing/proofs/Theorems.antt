@@ -29,18 +29,18 @@ use Rattle.comparing.proofs.Ahead.{decides}
 use Rattle.comparing.proofs.Parting.{none_same, same_none, from_two, to_last, differ_at, alike_below, has_blocks}
 use Rattle.comparing.proofs.Handed.{order, refused}
 use Rattle.comparing.proofs.which.which.Kinds as which
-use Rattle.comparing.proofs.which.which.Reads as which-reads
+use Rattle.comparing.proofs.which.which.Reads as which_reads
 use Rattle.comparing.proofs.earlier.earlier.Kinds as earlier
-use Rattle.comparing.proofs.earlier.earlier.Reads as earlier-reads
+use Rattle.comparing.proofs.earlier.earlier.Reads as earlier_reads
 
 -- ---- Which
 
 -- two answers that the contract allows for one input are the same
-pub which_one_outcome : OneAnswer 3 which.ps which.r which-reads.Post
+pub which_one_outcome : OneAnswer 3 which.ps which.r which_reads.Post
 which_one_outcome κs a x y s t h k = h ∙ sym k
 
 -- any answer r that the contract allows for a stock and two strips
-module _ (κs : Lfts 3) (a : Dens κs which.ps) (r : Compared) (s : AtExit (ended_of 3 which.ps which.r) κs) (h : which-reads.Post κs a r s) where
+module _ (κs : Lfts 3) (a : Dens κs which.ps) (r : Compared) (s : AtExit (ended_of 3 which.ps which.r) κs) (h : which_reads.Post κs a r s) where
   abbrev counts : List ℕ
   counts = a.0.now
 
@@ -141,7 +141,7 @@ empty_is_no_strip : (counts : List ℕ) → IsStock counts → IsStrip counts []
 empty_is_no_strip counts stock strip = omega (arith, strip_sum counts [] strip, some_block counts stock)
 
 -- any slice r that the contract allows for a stock and two lent strips
-module _ (κs : Lfts 2) (a : Dens κs earlier.ps) (r : Lent) (s : AtExit (ended_of 2 earlier.ps earlier.r) κs) (h : earlier-reads.Post κs a r s) where
+module _ (κs : Lfts 2) (a : Dens κs earlier.ps) (r : Lent) (s : AtExit (ended_of 2 earlier.ps earlier.r) κs) (h : earlier_reads.Post κs a r s) where
   abbrev stock : List ℕ
   stock = a.0.now
 
@@ -194,7 +194,7 @@ module _ (κs : Lfts 2) (a : Dens κs earlier.ps) (r : Lent) (s : AtExit (ended_
 
 -- two slices that the contract allows for one input are the same: they start at one place and hold the same blocks
 pub earlier_one_slice : (κs : Lfts 2) (a : Dens κs earlier.ps) (x y : Lent) (s t : AtExit (ended_of 2 earlier.ps earlier.r) κs)
-    → earlier-reads.Post κs a x s → earlier-reads.Post κs a y t → (x.ref_ptr ≡ y.ref_ptr) × (x.now ≡ y.now)
+    → earlier_reads.Post κs a x s → earlier_reads.Post κs a y t → (x.ref_ptr ≡ y.ref_ptr) × (x.now ≡ y.now)
 earlier_one_slice κs a x y s t h k = elim (ℕ_discrete (refused a.0.now a.1.0 a.1.1.0).0 0) [
   | yes f ↦
       let e : x ≡ y = earlier_chosen κs a x s h f ∙ sym (earlier_chosen κs a y t k f) in

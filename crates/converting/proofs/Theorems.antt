@@ -11,7 +11,7 @@ use Rattle.rules.specs.Book.{book, place_in}
 use Rattle.rules.specs.Refusals.{No, first_of, stock_nos, many_no, above_no}
 use Rattle.rules.specs.Outcome.{OneAnswer}
 use Rattle.rules.proofs.Listed.{Listed}
-use Rattle.rules.proofs.Strips.{listed as book-listed}
+use Rattle.rules.proofs.Strips.{listed as book_listed}
 use Rattle.rules.proofs.Places.{there_and_back}
 use Rattle.rules.proofs.Refusals.{unless_passed, unless_refused, passed_both, passed_both_back}
 use Rattle.rules.proofs.Checks.{accepted, accepted_back, accepted_number, accepted_number_back}
@@ -19,17 +19,17 @@ use Rattle.dictionary.specs.Dictionary.{dictionary}
 use Rattle.dictionary.proofs.Places.{listed}
 use Rattle.drawers.specs.declared.Filed.{Filed}
 use Rattle.converting.specs.Answers.{convert_nos, convert_answer}
-use Rattle.converting.proofs.to_dictionary.Kinds as to-dictionary
-use Rattle.converting.proofs.to_dictionary.Reads as to-dictionary-reads
-use Rattle.converting.proofs.to_book.Kinds as to-book
-use Rattle.converting.proofs.to_book.Reads as to-book-reads
+use Rattle.converting.proofs.to_dictionary.Kinds as to_dictionary
+use Rattle.converting.proofs.to_dictionary.Reads as to_dictionary_reads
+use Rattle.converting.proofs.to_book.Kinds as to_book
+use Rattle.converting.proofs.to_book.Reads as to_book_reads
 
 -- ---- one outcome: two that the contract allows for one input are the same
 
-pub to_dictionary_one_outcome : OneAnswer 1 to-dictionary.ps to-dictionary.r to-dictionary-reads.Post
+pub to_dictionary_one_outcome : OneAnswer 1 to_dictionary.ps to_dictionary.r to_dictionary_reads.Post
 to_dictionary_one_outcome κs a x y s t h k = h ∙ sym k
 
-pub to_book_one_outcome : OneAnswer 1 to-book.ps to-book.r to-book-reads.Post
+pub to_book_one_outcome : OneAnswer 1 to_book.ps to_book.r to_book_reads.Post
 to_book_one_outcome κs a x y s t h k = h ∙ sym k
 
 -- ---- each outcome that the contract allows is right
@@ -57,11 +57,11 @@ convert_is_right from to counts i r h =
       refused_zero = λ e. number ∙ unless_refused 0 _ _ (λ m. e (no ∙ m));
     }
 
-pub to_dictionary_right : (κs : Lfts 1) (a : Dens κs to-dictionary.ps) (r : Filed) (s : AtExit (ended_of 1 to-dictionary.ps to-dictionary.r) κs) → to-dictionary-reads.Post κs a r s
+pub to_dictionary_right : (κs : Lfts 1) (a : Dens κs to_dictionary.ps) (r : Filed) (s : AtExit (ended_of 1 to_dictionary.ps to_dictionary.r) κs) → to_dictionary_reads.Post κs a r s
     → ConvertRight (book a.0.now) (dictionary a.0.now) a.0.now a.1.0 r.refusal.no r.number
 to_dictionary_right κs a r s h = convert_is_right (book a.0.now) (dictionary a.0.now) a.0.now a.1.0 r h
 
-pub to_book_right : (κs : Lfts 1) (a : Dens κs to-book.ps) (r : Filed) (s : AtExit (ended_of 1 to-book.ps to-book.r) κs) → to-book-reads.Post κs a r s
+pub to_book_right : (κs : Lfts 1) (a : Dens κs to_book.ps) (r : Filed) (s : AtExit (ended_of 1 to_book.ps to_book.r) κs) → to_book_reads.Post κs a r s
     → ConvertRight (dictionary a.0.now) (book a.0.now) a.0.now a.1.0 r.refusal.no r.number
 to_book_right κs a r s h = convert_is_right (dictionary a.0.now) (book a.0.now) a.0.now a.1.0 r h
 
@@ -77,10 +77,10 @@ and_back {to = to} ls ms {i = i} there back e =
     (none, back.place none ∙ rw (there.place e) w.1)
 
 -- a call of each with the same stock, the one given the number that the other answered
-module _ (κs κt : Lfts 1) (a : Dens κs to-dictionary.ps) (b : Dens κt to-book.ps) (d q : Filed) (s : AtExit (ended_of 1 to-dictionary.ps to-dictionary.r) κs) (t : AtExit (ended_of 1 to-book.ps to-book.r) κt)
-    (h : to-dictionary-reads.Post κs a d s) (k : to-book-reads.Post κt b q t) (same : b.0.now ≡ a.0.now) where
+module _ (κs κt : Lfts 1) (a : Dens κs to_dictionary.ps) (b : Dens κt to_book.ps) (d q : Filed) (s : AtExit (ended_of 1 to_dictionary.ps to_dictionary.r) κs) (t : AtExit (ended_of 1 to_book.ps to_book.r) κt)
+    (h : to_dictionary_reads.Post κs a d s) (k : to_book_reads.Post κt b q t) (same : b.0.now ≡ a.0.now) where
   pub to_dictionary_and_back : b.1.0 ≡ d.number → d.refusal.no ≡ 0 → (q.refusal.no ≡ 0) × (q.number ≡ a.1.0)
-  to_dictionary_and_back e = and_back (book-listed a.0.now) (listed a.0.now) (to_dictionary_right κs a d s h) (rw (same, e) at (to_book_right κt b q t k))
+  to_dictionary_and_back e = and_back (book_listed a.0.now) (listed a.0.now) (to_dictionary_right κs a d s h) (rw (same, e) at (to_book_right κt b q t k))
 
   pub to_book_and_back : a.1.0 ≡ q.number → q.refusal.no ≡ 0 → (d.refusal.no ≡ 0) × (d.number ≡ b.1.0)
-  to_book_and_back e = and_back (listed a.0.now) (book-listed a.0.now) (rw same at (to_book_right κt b q t k)) (rw e at (to_dictionary_right κs a d s h))
+  to_book_and_back e = and_back (listed a.0.now) (book_listed a.0.now) (rw same at (to_book_right κt b q t k)) (rw e at (to_dictionary_right κs a d s h))

@@ -19,13 +19,13 @@ use Rattle.counting.specs.declared.count.Counted.{Counted}
 use Rattle.counting.specs.Answers.{count_nos, count_answer, first_answer, first_after}
 use Rattle.counting.proofs.Marked.{total_30_31_1, total_31_31_1}
 use Rattle.counting.proofs.count.count.Kinds as count
-use Rattle.counting.proofs.count.count.Reads as count-reads
+use Rattle.counting.proofs.count.count.Reads as count_reads
 use Rattle.counting.proofs.first.first.Kinds as first
 use Rattle.counting.proofs.first.first.Reads as first_reads
 
 -- ---- one outcome: two that the contract allows for one input are the same
 
-pub count_one_outcome : OneAnswer 1 count.ps count.r count-reads.Post
+pub count_one_outcome : OneAnswer 1 count.ps count.r count_reads.Post
 count_one_outcome κs a x y s t h k = h ∙ sym k
 
 pub first_one_outcome : OneOutcome 2 first.ps first.r (λ κs s. s.1.0.now) first_reads.Post
@@ -67,7 +67,7 @@ module _ (counts : List ℕ) (r : Counted) (h : r ≡ count_answer counts) where
     refused_zero = λ e. total_is ∙ unless_refused 0 _ _ (λ k. e (no_is ∙ k));
   }
 
-pub count_right : (κs : Lfts 1) (a : Dens κs count.ps) (r : Counted) (s : AtExit (ended_of 1 count.ps count.r) κs) → count-reads.Post κs a r s → CountRight a.0.now r
+pub count_right : (κs : Lfts 1) (a : Dens κs count.ps) (r : Counted) (s : AtExit (ended_of 1 count.ps count.r) κs) → count_reads.Post κs a r s → CountRight a.0.now r
 count_right κs a r s h = right a.0.now r h
 
 -- the marked stocks: T of 30 31 1 is 14428278950913093728, and 31 31 1 is refused with 7
@@ -79,7 +79,7 @@ answer_many : count_answer (31 ∷ 31 ∷ 1 ∷ []) ≡ record { refusal = recor
 unfolding count_answer count_nos stock_nos first_of sum
 answer_many = rw (many_refused (31 ∷ 31 ∷ 1 ∷ []) total_31_31_1)
 
-module _ (κs : Lfts 1) (a : Dens κs count.ps) (r : Counted) (s : AtExit (ended_of 1 count.ps count.r) κs) (h : count-reads.Post κs a r s) where
+module _ (κs : Lfts 1) (a : Dens κs count.ps) (r : Counted) (s : AtExit (ended_of 1 count.ps count.r) κs) (h : count_reads.Post κs a r s) where
   pub count_30_31_1 : a.0.now ≡ 30 ∷ 31 ∷ 1 ∷ [] → r ≡ record { refusal = record { no = 0; place = 0 }; total = 14428278950913093728 }
   count_30_31_1 e = h ∙ ap count_answer e ∙ answer_fits
 

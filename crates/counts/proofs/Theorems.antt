@@ -11,11 +11,11 @@ use Rattle.counts.specs.Readable.{Readable}
 use Rattle.counts.specs.declared.LineRead.{LineRead}
 use Rattle.counts.specs.Reading.{counts_read, line_read}
 use Rattle.counts.proofs.Readings.{readable_read, read_readable}
-use Rattle.counts.proofs.read_line.Kinds as read-line
-use Rattle.counts.proofs.read_line.Reads as read-line-reads
+use Rattle.counts.proofs.read_line.Kinds as read_line
+use Rattle.counts.proofs.read_line.Reads as read_line_reads
 
 -- one outcome: two answers that the contract allows for one input are the same
-pub one_outcome : OneAnswer 1 read-line.ps read-line.r read-line-reads.Post
+pub one_outcome : OneAnswer 1 read_line.ps read_line.r read_line_reads.Post
 one_outcome κs a x y s t h k = h ∙ sym k
 
 -- a line has at most one reading
@@ -31,7 +31,7 @@ pub nothing_read : (input : List ℕ) → ((counts : List ℕ) → Readable coun
 nothing_read input h none e = refl
 nothing_read input h (some counts) e = absurd (h counts (read_readable counts input e))
 
-pub line_right : (κs : Lfts 1) (a : Dens κs read-line.ps) (r : LineRead) (s : AtExit (ended_of 1 read-line.ps read-line.r) κs) → read-line-reads.Post κs a r s → LineRight a.0.now r
+pub line_right : (κs : Lfts 1) (a : Dens κs read_line.ps) (r : LineRead) (s : AtExit (ended_of 1 read_line.ps read_line.r) κs) → read_line_reads.Post κs a r s → LineRight a.0.now r
 line_right κs a r s h = record {
   read = λ counts p. h ∙ ap line_read (readable_read counts a.0.now p);
   unreadable = λ n. h ∙ ap line_read (nothing_read a.0.now n (counts_read a.0.now) refl);

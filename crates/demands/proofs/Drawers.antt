@@ -17,15 +17,15 @@ use Rattle.drawers.specs.declared.Filed.{Filed}
 use Rattle.drawers.proofs.Theorems.{dictionary_number_right, dictionary_strip_right, dictionary_next_right}
 use Rattle.converting.proofs.Theorems.{to_dictionary_right, to_book_right}
 use Rattle.drawers.proofs.number.dictionary_number.Kinds as number
-use Rattle.drawers.proofs.number.dictionary_number.Reads as number-reads
+use Rattle.drawers.proofs.number.dictionary_number.Reads as number_reads
 use Rattle.drawers.proofs.strip.dictionary_strip.Kinds as strip
-use Rattle.drawers.proofs.strip.dictionary_strip.Reads as strip-reads
+use Rattle.drawers.proofs.strip.dictionary_strip.Reads as strip_reads
 use Rattle.drawers.proofs.next.dictionary_next.Kinds as next
-use Rattle.drawers.proofs.next.dictionary_next.Reads as next-reads
-use Rattle.converting.proofs.to_dictionary.Kinds as to-dictionary
-use Rattle.converting.proofs.to_dictionary.Reads as to-dictionary-reads
-use Rattle.converting.proofs.to_book.Kinds as to-book
-use Rattle.converting.proofs.to_book.Reads as to-book-reads
+use Rattle.drawers.proofs.next.dictionary_next.Reads as next_reads
+use Rattle.converting.proofs.to_dictionary.Kinds as to_dictionary
+use Rattle.converting.proofs.to_dictionary.Reads as to_dictionary_reads
+use Rattle.converting.proofs.to_book.Kinds as to_book
+use Rattle.converting.proofs.to_book.Reads as to_book_reads
 -- the list rises strictly in dictionary order, and no other list does that holds the strips of the stock
 pub use Rattle.dictionary.proofs.Theorems.{dictionary_order}
 pub use Rattle.dictionary.proofs.Unique.{dictionary_unique}
@@ -54,7 +54,7 @@ dictionary_in_book counts i h =
 -- ---- number from strip, and strip from number
 
 -- any answer r for a strip of an accepted stock that has fewer than 2^64 strips: not refused, and the strip's place in the dictionary
-pub number_is_the_dictionary's : (κs : Lfts 2) (a : Dens κs number.ps) (r : Filed) (s : AtExit (ended_of 2 number.ps number.r) κs) → number-reads.Post κs a r s
+pub number_is_the_dictionary's : (κs : Lfts 2) (a : Dens κs number.ps) (r : Filed) (s : AtExit (ended_of 2 number.ps number.r) κs) → number_reads.Post κs a r s
     → IsStock a.0.now → IsStrip a.0.now a.1.0.now → total a.0.now < 2 ^ 64 → (r.refusal.no ≡ 0) × (r.number ≡ place_in (dictionary a.0.now) a.1.0.now)
 number_is_the_dictionary's κs a r s h k l m =
     let n = dictionary_number_right κs a r s h in
@@ -62,7 +62,7 @@ number_is_the_dictionary's κs a r s h k l m =
     (e, n.place e)
 
 -- any outcome for a number below T: not refused, and the dictionary's strip there
-pub strip_is_the_dictionary's : (κs : Lfts 2) (a : Dens κs strip.ps) (r : Refusal) (s : AtExit (ended_of 2 strip.ps strip.r) κs) → strip-reads.Post κs a r s
+pub strip_is_the_dictionary's : (κs : Lfts 2) (a : Dens κs strip.ps) (r : Refusal) (s : AtExit (ended_of 2 strip.ps strip.r) κs) → strip_reads.Post κs a r s
     → IsStock a.0.now → length a.1.1.0.now ≡ sum a.0.now → total a.0.now < 2 ^ 64 → a.1.0 < total a.0.now
     → (r.no ≡ 0) × (s.1.1.0.now ≡ get_or (dictionary a.0.now) a.1.0 [])
 strip_is_the_dictionary's κs a r s h k l m i =
@@ -72,7 +72,7 @@ strip_is_the_dictionary's κs a r s h k l m i =
 
 -- ---- the next strip, also where T is 2^64 or more
 
-module _ (κs : Lfts 2) (a : Dens κs next.ps) (r : Refusal) (s : AtExit (ended_of 2 next.ps next.r) κs) (h : next-reads.Post κs a r s) where
+module _ (κs : Lfts 2) (a : Dens κs next.ps) (r : Refusal) (s : AtExit (ended_of 2 next.ps next.r) κs) (h : next_reads.Post κs a r s) where
   -- any outcome for a strip that is not the last: not refused, and the entry after it
   pub next_is_the_entry_after : IsStock a.0.now → IsStrip a.0.now a.1.0.now → place_in (dictionary a.0.now) a.1.0.now + 1 < total a.0.now
       → (r.no ≡ 0) × (s.1.0.now ≡ get_or (dictionary a.0.now) (place_in (dictionary a.0.now) a.1.0.now + 1) [])
@@ -97,14 +97,14 @@ module _ (κs : Lfts 2) (a : Dens κs next.ps) (r : Refusal) (s : AtExit (ended_
 -- ---- conversion
 
 -- any answer for a number below T: not refused, and the other number of the strip that has it
-pub to_dictionary_is_the_other_number : (κs : Lfts 1) (a : Dens κs to-dictionary.ps) (r : Filed) (s : AtExit (ended_of 1 to-dictionary.ps to-dictionary.r) κs) → to-dictionary-reads.Post κs a r s
+pub to_dictionary_is_the_other_number : (κs : Lfts 1) (a : Dens κs to_dictionary.ps) (r : Filed) (s : AtExit (ended_of 1 to_dictionary.ps to_dictionary.r) κs) → to_dictionary_reads.Post κs a r s
     → IsStock a.0.now → total a.0.now < 2 ^ 64 → a.1.0 < total a.0.now → (r.refusal.no ≡ 0) × (r.number ≡ place_in (dictionary a.0.now) (get_or (book a.0.now) a.1.0 []))
 to_dictionary_is_the_other_number κs a r s h k m i =
     let n = to_dictionary_right κs a r s h in
     let e = n.accepted k m i in
     (e, n.place e)
 
-pub to_book_is_the_other_number : (κs : Lfts 1) (a : Dens κs to-book.ps) (r : Filed) (s : AtExit (ended_of 1 to-book.ps to-book.r) κs) → to-book-reads.Post κs a r s
+pub to_book_is_the_other_number : (κs : Lfts 1) (a : Dens κs to_book.ps) (r : Filed) (s : AtExit (ended_of 1 to_book.ps to_book.r) κs) → to_book_reads.Post κs a r s
     → IsStock a.0.now → total a.0.now < 2 ^ 64 → a.1.0 < total a.0.now → (r.refusal.no ≡ 0) × (r.number ≡ place_in (book a.0.now) (get_or (dictionary a.0.now) a.1.0 []))
 to_book_is_the_other_number κs a r s h k m i =
     let n = to_book_right κs a r s h in

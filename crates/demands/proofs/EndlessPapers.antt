@@ -17,8 +17,8 @@ use Rattle.counting.proofs.first.first.Reads as first_reads
 use Rattle.papers.specs.Papers.{is_a_turn}
 use Rattle.papers.specs.declared.Asked.{Asked}
 use Rattle.papers.proofs.Theorems.{accepts, same_is}
-use Rattle.papers.proofs.same_paper.Kinds as same-paper
-use Rattle.papers.proofs.same_paper.Reads as same-paper-reads
+use Rattle.papers.proofs.same_paper.Kinds as same_paper
+use Rattle.papers.proofs.same_paper.Reads as same_paper_reads
 use Rattle.dictionary.specs.Dictionary.{dictionary}
 use Rattle.standing.specs.Standing.{stands_for_paper}
 use Rattle.endless.specs.declared.stand.Stood.{Stood}
@@ -29,9 +29,9 @@ use Rattle.endless.proofs.Listing.{papers_of}
 use Rattle.endless.proofs.Chain.{Answer, Calls, Lists, many}
 use Rattle.endless.proofs.Chain as chain
 use Rattle.endless.proofs.stand.stand.Kinds as stand
-use Rattle.endless.proofs.stand.stand.Reads as stand-reads
+use Rattle.endless.proofs.stand.stand.Reads as stand_reads
 use Rattle.endless.proofs.next_paper.next_paper.Kinds as next_paper_lem
-use Rattle.endless.proofs.next_paper.next_paper.Reads as next-paper-reads
+use Rattle.endless.proofs.next_paper.next_paper.Reads as next_paper_reads
 -- the smallest turn stands, and the smallest number of places leads to it, the strip reversed or not: any outcome of stand
 pub use Rattle.endless.proofs.Theorems.{stand_right}
 -- found, none left and stopped: what each means, exactly when it is given, and that one always is: any outcome of next paper
@@ -46,9 +46,9 @@ pub use Rattle.endless.proofs.Listing.{first_standing}
 -- ---- two strips have the same standing strip exactly when Same paper says yes
 
 -- a and b of calls of stand, p of a call of Same paper on the same stock and strips
-module _ (κs κt : Lfts 2) (κu : Lfts 3) (a : Dens κs stand.ps) (b : Dens κt stand.ps) (p : Dens κu same-paper.ps) (x y : Stood) (q : Asked)
-    (s : AtExit (ended_of 2 stand.ps stand.r) κs) (t : AtExit (ended_of 2 stand.ps stand.r) κt) (u : AtExit (ended_of 3 same-paper.ps same-paper.r) κu)
-    (h : stand-reads.Post κs a x s) (k : stand-reads.Post κt b y t) (m : same-paper-reads.Post κu p q u)
+module _ (κs κt : Lfts 2) (κu : Lfts 3) (a : Dens κs stand.ps) (b : Dens κt stand.ps) (p : Dens κu same_paper.ps) (x y : Stood) (q : Asked)
+    (s : AtExit (ended_of 2 stand.ps stand.r) κs) (t : AtExit (ended_of 2 stand.ps stand.r) κt) (u : AtExit (ended_of 3 same_paper.ps same_paper.r) κu)
+    (h : stand_reads.Post κs a x s) (k : stand_reads.Post κt b y t) (m : same_paper_reads.Post κu p q u)
     (stock : a.0.now ≡ p.0.now) (stock_too : b.0.now ≡ p.0.now) (first_strip : a.1.0.now ≡ p.1.0.now) (second_strip : b.1.0.now ≡ p.1.1.0.now) where
   one : StandRight p.0.now p.1.0.now s.1.0.now x.refusal.no x.turn x.reversed
   one = rw (stock, first_strip) at (stand_right κs a x s h)
@@ -74,7 +74,7 @@ module _ (κs κt : Lfts 2) (κu : Lfts 3) (a : Dens κs stand.ps) (b : Dens κt
 
 -- b of a second call, lent the strip that the first left
 pub standing_again : (κs κt : Lfts 2) (a : Dens κs stand.ps) (b : Dens κt stand.ps) (x y : Stood) (s : AtExit (ended_of 2 stand.ps stand.r) κs) (t : AtExit (ended_of 2 stand.ps stand.r) κt)
-    → stand-reads.Post κs a x s → stand-reads.Post κt b y t → b.0.now ≡ a.0.now → b.1.0.now ≡ s.1.0.now → x.refusal.no ≡ 0
+    → stand_reads.Post κs a x s → stand_reads.Post κt b y t → b.0.now ≡ a.0.now → b.1.0.now ≡ s.1.0.now → x.refusal.no ≡ 0
     → (y.refusal.no ≡ 0) × (t.1.0.now ≡ s.1.0.now) × (y.turn ≡ 0) × (y.reversed ≡ false)
 standing_again κs κt a b x y s t h k stock lent e =
     endless.stand_twice a.0.now a.1.0.now s.1.0.now t.1.0.now _ _ _ _ _ _ (stand_right κs a x s h) (rw (stock, lent) at (stand_right κt b y t k)) e
@@ -92,7 +92,7 @@ first_leaves_standing κs a r s h e =
 
 -- calls one after the other, each lent the strip that the one before left: strip i is what call i is lent
 module _ (counts : List ℕ) (accepted : IsStock counts) (given : ℕ) (κs : ℕ → Lfts 2) (a : (i : ℕ) → Dens (κs i) next_paper_lem.ps) (r : ℕ → Stepped)
-    (s : (i : ℕ) → AtExit (ended_of 2 next_paper_lem.ps next_paper_lem.r) (κs i)) (h : (i : ℕ) → next-paper-reads.Post (κs i) (a i) (r i) (s i))
+    (s : (i : ℕ) → AtExit (ended_of 2 next_paper_lem.ps next_paper_lem.r) (κs i)) (h : (i : ℕ) → next_paper_reads.Post (κs i) (a i) (r i) (s i))
     (stock : (i : ℕ) → (a i).0.now ≡ counts) (steps : (i : ℕ) → (a i).1.1.0 ≡ given) (lent : (i : ℕ) → (a (suc i)).1.0.now ≡ (s i).1.0.now)
     (start : (a 0).1.0.now ≡ get_or (dictionary counts) 0 []) (enough : total counts ≤ given + 1) where
   abbrev strip : ℕ → List ℕ

@@ -11,8 +11,8 @@ use Rattle.rules.proofs.Checks.{some_blocks}
 use Rattle.papers.specs.Papers.{hung, is_a_turn}
 use Rattle.papers.specs.declared.Asked.{Asked}
 use Rattle.papers.proofs.Theorems.{accepts, accepted, same_is}
-use Rattle.papers.proofs.same_paper.Kinds as same-paper
-use Rattle.papers.proofs.same_paper.Reads as same-paper-reads
+use Rattle.papers.proofs.same_paper.Kinds as same_paper
+use Rattle.papers.proofs.same_paper.Reads as same_paper_reads
 use Rattle.standing.proofs.OnePaper.{paper_self, paper_back, paper_on, hung_strip, either_end_up}
 -- Same paper says yes exactly where the second strip is the first, as it stands or read backwards, turned by some number of places
 pub use Rattle.papers.proofs.Theorems.{yes_turned, turned_yes}
@@ -26,7 +26,7 @@ pub record Asks (counts first second : List ℕ) (no : ℕ) (same : Bool) : Type
   pub says : no ≡ 0 → same ≡ is_a_turn first second
 
 -- any answer that the contract allows
-pub asks : (κs : Lfts 3) (a : Dens κs same-paper.ps) (r : Asked) (s : AtExit (ended_of 3 same-paper.ps same-paper.r) κs) → same-paper-reads.Post κs a r s
+pub asks : (κs : Lfts 3) (a : Dens κs same_paper.ps) (r : Asked) (s : AtExit (ended_of 3 same_paper.ps same_paper.r) κs) → same_paper_reads.Post κs a r s
     → Asks a.0.now a.1.0.now a.1.1.0.now r.refusal.no r.same
 asks κs a r s h = record { right = accepts κs a r s h; taken = accepted κs a r s h; says = same_is κs a r s h }
 

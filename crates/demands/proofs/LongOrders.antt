@@ -20,11 +20,11 @@ use Rattle.following.specs.declared.Readout.{Readout}
 use Rattle.following.specs.Following.{as_readout}
 use Rattle.reading.proofs.Exactly.{read_strip}
 use Rattle.reading.proofs.Theorems.{Reads, read_passes, read_leads}
-use Rattle.reading.proofs.reader.read_editions.Kinds as read-editions
-use Rattle.reading.proofs.reader.read_editions.Reads as read-editions-reads
+use Rattle.reading.proofs.reader.read_editions.Kinds as read_editions
+use Rattle.reading.proofs.reader.read_editions.Reads as read_editions_reads
 use Rattle.rewriting.proofs.Theorems.{writes_form, form_is_read}
-use Rattle.forms.proofs.long.write_long.Kinds as write-long
-use Rattle.forms.proofs.long.write_long.Reads as write-long-reads
+use Rattle.forms.proofs.long.write_long.Kinds as write_long
+use Rattle.forms.proofs.long.write_long.Reads as write_long_reads
 -- a stride of n moves, n at least 2 and no more than are left, of a stock that can be numbered: wherever a record stands, what follows it is followed from the
 -- strip n numbers further on, and the moves are n more; its number is its eight bytes, highest first
 pub use Rattle.reading.proofs.MoveRecords.{follow_stride}
@@ -62,8 +62,8 @@ moves_below sheet buffer r after h e =
     omega (arith, (read_leads true sheet buffer r after h e).0, place_below (sheet_stock sheet) (sheet_strip sheet) own)
 
 -- what the writer gives, the new reader reads with that c and the strip c numbers further on
-pub written_long_is_read : (κs : Lfts 3) (a : Dens κs write-long.ps) (w : Written) (s : AtExit (ended_of 3 write-long.ps write-long.r) κs) → write-long-reads.Post κs a w s
-    → (κr : Lfts 2) (b : Dens κr read-editions.ps) (r : Readout) (t : AtExit (ended_of 2 read-editions.ps read-editions.r) κr) → read-editions-reads.Post κr b r t
+pub written_long_is_read : (κs : Lfts 3) (a : Dens κs write_long.ps) (w : Written) (s : AtExit (ended_of 3 write_long.ps write_long.r) κs) → write_long_reads.Post κs a w s
+    → (κr : Lfts 2) (b : Dens κr read_editions.ps) (r : Readout) (t : AtExit (ended_of 2 read_editions.ps read_editions.r) κr) → read_editions_reads.Post κr b r t
     → w.refusal.no ≡ 0 → b.0.now ≡ take w.length s.1.1.1.0.now → 64 ≤ length b.1.0.now
     → (r ≡ as_readout fine a.1.1.0) × (t.1.0.now ≡ onward a.0.now a.1.0.now a.1.1.0 ++ drop (sum a.0.now) b.1.0.now)
 written_long_is_read κs a w s h κr b r t k e same room =

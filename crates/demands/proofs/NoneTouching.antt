@@ -16,13 +16,13 @@ use Rattle.walker.specs.declared.open.Opened.{Opened}
 use Rattle.walker.specs.Walkers.{all_forward}
 use Rattle.walker.specs.Answers.{open_answer}
 use Rattle.walker.proofs.open.open.Kinds as opening
-use Rattle.walker.proofs.open.open.Reads as opening-reads
+use Rattle.walker.proofs.open.open.Reads as opening_reads
 use Rattle.touching.specs.Apart.{stands_apart}
 use Rattle.spacing.specs.declared.next_apart.Spaced.{Spaced}
 use Rattle.spacing.proofs.ByNumber.{First, None, NoneTo}
 use Rattle.spacing.proofs.ByNumber as by_number
-use Rattle.spacing.proofs.next_apart.next_apart.Kinds as next-apart
-use Rattle.spacing.proofs.next_apart.next_apart.Reads as next-apart-reads
+use Rattle.spacing.proofs.next_apart.next_apart.Kinds as next_apart
+use Rattle.spacing.proofs.next_apart.next_apart.Reads as next_apart_reads
 -- no two of a kind touch: on a panel, place by place; on an endless paper at the ends too; a strip of one block
 pub use Rattle.touching.proofs.Theorems.{panel_apart, apart_panel, endless_apart, one_block}
 -- found, none and stopped: what each means, exactly when it is given, and that one always is; what is left, and the walker: any outcome of the call
@@ -32,7 +32,7 @@ pub use Rattle.spacing.proofs.Later.{later_onward, later_left}
 
 -- ---- any outcome that is not a refusal, read by the numbers of the strips
 
-module _ (κs : Lfts 2) (a : Dens κs next-apart.ps) (r : Spaced) (s : AtExit (ended_of 2 next-apart.ps next-apart.r) κs) (h : next-apart-reads.Post κs a r s) (z : r.refusal.no ≡ 0) where
+module _ (κs : Lfts 2) (a : Dens κs next_apart.ps) (r : Spaced) (s : AtExit (ended_of 2 next_apart.ps next_apart.r) κs) (h : next_apart_reads.Post κs a r s) (z : r.refusal.no ≡ 0) where
   abbrev counts : List ℕ
   counts = a.0.now
 
@@ -67,7 +67,7 @@ module _ (κs : Lfts 2) (a : Dens κs next-apart.ps) (r : Spaced) (s : AtExit (e
   stopped_means = by_number.stopped_means (stands_apart endless) counts strip own given r.outcome r.moves after ((next_apart_right κs a r s h).searched z)
 
   -- found: the walker is what Open answers for the stock and the strip that is left, by any answer that its contract allows
-  pub found_opens : r.outcome ≡ 1 → (κt : Lfts 2) (b : Dens κt opening.ps) (x : Opened) (t : AtExit (ended_of 2 opening.ps opening.r) κt) → opening-reads.Post κt b x t
+  pub found_opens : r.outcome ≡ 1 → (κt : Lfts 2) (b : Dens κt opening.ps) (x : Opened) (t : AtExit (ended_of 2 opening.ps opening.r) κt) → opening_reads.Post κt b x t
       → b.0.now ≡ counts → b.1.0.now ≡ after → (x.refusal.no ≡ 0) × (x.walker ≡ r.walker)
   unfolding open_answer
   found_opens o κt b x t k e f =

@@ -17,11 +17,11 @@ use Rattle.walking.specs.declared.Moved.{Moved}
 use Rattle.walking.specs.Answers.{left_along}
 use Rattle.walking.proofs.Theorems.{walk_right}
 use Rattle.walking.proofs.walk.walk.Kinds as walk
-use Rattle.walking.proofs.walk.walk.Reads as walk-reads
+use Rattle.walking.proofs.walk.walk.Reads as walk_reads
 use Rattle.running.specs.declared.run.Ran.{Ran}
 use Rattle.running.proofs.Theorems.{same_test, run_right}
 use Rattle.running.proofs.run.run.Kinds as run
-use Rattle.running.proofs.run.run.Reads as run-reads
+use Rattle.running.proofs.run.run.Reads as run_reads
 -- as many moves the other way give the strip and the walker one began with, and the same places in reverse order
 pub use Rattle.running.proofs.ThereAndBack.{run_there_and_back}
 
@@ -46,7 +46,7 @@ module _ (counts s : List ℕ) where
 
 -- ---- Walk: 9 at either end, and there alone
 
-module _ (κs : Lfts 2) (a : Dens κs walk.ps) (r : Moved) (s : AtExit (ended_of 2 walk.ps walk.r) κs) (h : walk-reads.Post κs a r s) where
+module _ (κs : Lfts 2) (a : Dens κs walk.ps) (r : Moved) (s : AtExit (ended_of 2 walk.ps walk.r) κs) (h : walk_reads.Post κs a r s) where
   module _ (k : IsStock a.0.now) (l : IsStrip a.0.now a.1.0.now) (w : a.1.1.0 ≡ walker_for a.0.now a.1.0.now) where
     pub nine_on_the_last : a.1.1.1.0 ≡ false → place_in (book a.0.now) a.1.0.now + 1 ≡ total a.0.now → r.refusal.no ≡ 9
     nine_on_the_last d e = (walk_right κs a r s h).ended k l w (rw d (none_on a.0.now a.1.0.now e))
@@ -63,7 +63,7 @@ module _ (κs : Lfts 2) (a : Dens κs walk.ps) (r : Moved) (s : AtExit (ended_of
 
 -- ---- Run: its moves are the change in number, either way; yes exactly on the last strip going on, and on strip 0 going back; never 9
 
-module _ (κs : Lfts 3) (a : Dens κs run.ps) (r : Ran) (s : AtExit (ended_of 3 run.ps run.r) κs) (h : run-reads.Post κs a r s) where
+module _ (κs : Lfts 3) (a : Dens κs run.ps) (r : Ran) (s : AtExit (ended_of 3 run.ps run.r) κs) (h : run_reads.Post κs a r s) where
   module _ (z : r.refusal.no ≡ 0) where
     pub moves_up : a.1.1.1.0 ≡ false → place_in (book a.0.now) s.1.0.now ≡ place_in (book a.0.now) a.1.0.now + r.moves
     moves_up d = rw d at ((run_right κs a r s h).number z).1

@@ -18,7 +18,7 @@ use Rattle.running.specs.Answers.{moves_from}
 use Rattle.running.proofs.Theorems.{RunRight, run_right}
 use Rattle.running.proofs.OneAfterOther.{Led, led_once}
 use Rattle.running.proofs.run.run.Kinds as run
-use Rattle.running.proofs.run.run.Reads as run-reads
+use Rattle.running.proofs.run.run.Reads as run_reads
 use Rattle.searching.specs.Searching.{is_among}
 use Rattle.searching.proofs.First.{passed_over_within, passed_over_fail, passed_over_passes}
 use Rattle.bar.specs.Bar.{stood, distinct}
@@ -29,13 +29,13 @@ use Rattle.bar.proofs.EndToEnd.{whole_book}
 use Rattle.replaying.specs.declared.replay.Replayed.{Replayed}
 use Rattle.replaying.proofs.Theorems.{ReplayRight, replay_right}
 use Rattle.replaying.proofs.replay.replay.Kinds as replay
-use Rattle.replaying.proofs.replay.replay.Reads as replay-reads
+use Rattle.replaying.proofs.replay.replay.Reads as replay_reads
 -- an exchange makes the next strip of the book exactly where its two places are those of the walk's next move on, and where the number rises by one
 pub use Rattle.bar.proofs.Next.{next_places, next_number, last_not_next}
 
 -- ---- any outcome of Replay that is not a refusal
 
-module _ (κs : Lfts 3) (a : Dens κs replay.ps) (r : Replayed) (s : AtExit (ended_of 3 replay.ps replay.r) κs) (h : replay-reads.Post κs a r s) (z : r.refusal.no ≡ 0) where
+module _ (κs : Lfts 3) (a : Dens κs replay.ps) (r : Replayed) (s : AtExit (ended_of 3 replay.ps replay.r) κs) (h : replay_reads.Post κs a r s) (z : r.refusal.no ≡ 0) where
   abbrev counts : List ℕ
   counts = a.0.now
 
@@ -113,8 +113,8 @@ module _ (counts s : List ℕ) (w : Walker) (list₀ : List ℕ) (x : Ran) (t li
     whole = λ e f g. let all = whole_book counts s strip _ x.moves t led f g in (again.misses e ∙ all.0, again.differs e ∙ all.1);
   }
 
-pub run_replayed : (κs : Lfts 3) (a : Dens κs run.ps) (x : Ran) (s : AtExit (ended_of 3 run.ps run.r) κs) → run-reads.Post κs a x s
-    → (μs : Lfts 3) (b : Dens μs replay.ps) (y : Replayed) (t : AtExit (ended_of 3 replay.ps replay.r) μs) → replay-reads.Post μs b y t
+pub run_replayed : (κs : Lfts 3) (a : Dens κs run.ps) (x : Ran) (s : AtExit (ended_of 3 run.ps run.r) κs) → run_reads.Post κs a x s
+    → (μs : Lfts 3) (b : Dens μs replay.ps) (y : Replayed) (t : AtExit (ended_of 3 replay.ps replay.r) μs) → replay_reads.Post μs b y t
     → x.refusal.no ≡ 0 → a.1.1.1.0 ≡ false
     → b.0.now ≡ a.0.now → b.1.0.now ≡ a.1.0.now → b.1.1.0.now ≡ take (2 * x.moves) s.1.1.1.1.0.now
     → RunReplayed a.0.now a.1.0.now x s.1.0.now y t.1.0.now

@@ -17,15 +17,15 @@ use Rattle.stock.specs.declared.Refusal.{Refusal}
 use Rattle.counting.specs.declared.count.Counted.{Counted}
 use Rattle.counting.proofs.Theorems.{count_right, first_right}
 use Rattle.counting.proofs.count.count.Kinds as count
-use Rattle.counting.proofs.count.count.Reads as count-reads
+use Rattle.counting.proofs.count.count.Reads as count_reads
 use Rattle.counting.proofs.first.first.Kinds as first
 use Rattle.counting.proofs.first.first.Reads as first_reads
 use Rattle.numbering.specs.declared.number.Numbered.{Numbered}
 use Rattle.numbering.proofs.Theorems.{number_right, strip_right}
 use Rattle.numbering.proofs.number.number.Kinds as number
-use Rattle.numbering.proofs.number.number.Reads as number-reads
+use Rattle.numbering.proofs.number.number.Reads as number_reads
 use Rattle.numbering.proofs.strip.strip.Kinds as strip
-use Rattle.numbering.proofs.strip.strip.Reads as strip-reads
+use Rattle.numbering.proofs.strip.strip.Reads as strip_reads
 -- T is document 01's product, which is n! divided by the factorials of the counts, and the book has T strips
 pub use Rattle.rules.proofs.Strips.{total_one, total_rule}
 pub use Rattle.rules.proofs.Factorials.{total_quotient}
@@ -55,7 +55,7 @@ one_kind_more = book_rule
 -- ---- the total, and strip 0
 
 -- any answer r of Count for an accepted stock that has fewer than 2^64 strips: not refused, and T
-pub count_is_the_total : (κs : Lfts 1) (a : Dens κs count.ps) (r : Counted) (s : AtExit (ended_of 1 count.ps count.r) κs) → count-reads.Post κs a r s
+pub count_is_the_total : (κs : Lfts 1) (a : Dens κs count.ps) (r : Counted) (s : AtExit (ended_of 1 count.ps count.r) κs) → count_reads.Post κs a r s
     → IsStock a.0.now → total a.0.now < 2 ^ 64 → (r.refusal.no ≡ 0) × (r.total ≡ total a.0.now)
 count_is_the_total κs a r s h k m =
     let n = count_right κs a r s h in
@@ -73,7 +73,7 @@ first_is_strip_0 κs a r s h k l =
 -- ---- strip to number, and number to strip
 
 -- any answer r of Number for a strip of an accepted stock that has fewer than 2^64 strips: not refused, and the strip's place in the book
-pub number_is_the_book's : (κs : Lfts 2) (a : Dens κs number.ps) (r : Numbered) (s : AtExit (ended_of 2 number.ps number.r) κs) → number-reads.Post κs a r s
+pub number_is_the_book's : (κs : Lfts 2) (a : Dens κs number.ps) (r : Numbered) (s : AtExit (ended_of 2 number.ps number.r) κs) → number_reads.Post κs a r s
     → IsStock a.0.now → IsStrip a.0.now a.1.0.now → total a.0.now < 2 ^ 64 → (r.refusal.no ≡ 0) × (r.number ≡ place_in (book a.0.now) a.1.0.now)
 number_is_the_book's κs a r s h k l m =
     let n = number_right κs a r s h in
@@ -81,7 +81,7 @@ number_is_the_book's κs a r s h k l m =
     (e, n.place e)
 
 -- any outcome of Strip for a number below T: not refused, and the book's strip there
-pub strip_is_the_book's : (κs : Lfts 2) (a : Dens κs strip.ps) (r : Refusal) (s : AtExit (ended_of 2 strip.ps strip.r) κs) → strip-reads.Post κs a r s
+pub strip_is_the_book's : (κs : Lfts 2) (a : Dens κs strip.ps) (r : Refusal) (s : AtExit (ended_of 2 strip.ps strip.r) κs) → strip_reads.Post κs a r s
     → IsStock a.0.now → length a.1.1.0.now ≡ sum a.0.now → total a.0.now < 2 ^ 64 → a.1.0 < total a.0.now
     → (r.no ≡ 0) × (s.1.1.0.now ≡ get_or (book a.0.now) a.1.0 [])
 strip_is_the_book's κs a r s h k l m i =

@@ -24,7 +24,7 @@ use Rattle.running.proofs.Theorems.{RunRight, run_right}
 use Rattle.running.proofs.OneAfterOther.{Led, led_left, led_once, moves_by}
 use Rattle.running.proofs.OneAfterOther as runs
 use Rattle.running.proofs.run.run.Kinds as run
-use Rattle.running.proofs.run.run.Reads as run-reads
+use Rattle.running.proofs.run.run.Reads as run_reads
 use Rattle.bar.specs.Bar.{stood}
 use Rattle.bar.proofs.EndToEnd.{all_left, led_stands, led_many, led_turned, led_whole}
 -- over the book, in either direction; how many times as long it is; and strip by strip. None of these needs the premise
@@ -47,7 +47,7 @@ module _ (d : Bool) (counts s : List ℕ) (stock : IsStock counts) (h : IsStrip 
 
 -- ---- one run, by any outcome that its contract allows
 
-module _ (κs : Lfts 3) (a : Dens κs run.ps) (r : Ran) (s : AtExit (ended_of 3 run.ps run.r) κs) (h : run-reads.Post κs a r s) where
+module _ (κs : Lfts 3) (a : Dens κs run.ps) (r : Ran) (s : AtExit (ended_of 3 run.ps run.r) κs) (h : run_reads.Post κs a r s) where
   abbrev counts : List ℕ
   counts = a.0.now
 
@@ -114,7 +114,7 @@ module _ (κs : Lfts 3) (a : Dens κs run.ps) (r : Ran) (s : AtExit (ended_of 3 
 -- two bars beside each other, the second with the small stock without the sold-out kinds at its end, run from one end of the book to the other in one direction: the big one shows without kind k what
 -- the small one shows, each strip C(N(k), N(k - 1)) times in a row
 module _ (κs κt : Lfts 3) (a : Dens κs run.ps) (b : Dens κt run.ps) (x y : Ran) (s : AtExit (ended_of 3 run.ps run.r) κs) (t : AtExit (ended_of 3 run.ps run.r) κt)
-    (h : run-reads.Post κs a x s) (k : run-reads.Post κt b y t) (stock : b.0.now ≡ used (small a.0.now)) (direction : b.1.1.1.0 ≡ a.1.1.1.0) where
+    (h : run_reads.Post κs a x s) (k : run_reads.Post κt b y t) (stock : b.0.now ≡ used (small a.0.now)) (direction : b.1.1.1.0 ≡ a.1.1.1.0) where
   pub bars_together : a.1.0.now ≡ get_or (turn a.1.1.1.0 (book a.0.now)) 0 [] → b.1.0.now ≡ get_or (turn b.1.1.1.0 (book b.0.now)) 0 [] → x.ended ≡ true → y.ended ≡ true
       → map (lifted a.0.now) (stood a.1.0.now (take (2 * x.moves) s.1.1.1.1.0.now)) ≡ each_in_arow (times a.0.now) (stood b.1.0.now (take (2 * y.moves) t.1.1.1.1.0.now))
   bars_together first first-too ended ended-too =
@@ -124,7 +124,7 @@ module _ (κs κt : Lfts 3) (a : Dens κs run.ps) (b : Dens κt run.ps) (x y : R
 -- ---- runs one after the other, each lent the strip and the walker that the one before left, so that a book is gone through for which no list is long enough
 
 module _ (counts : List ℕ) (back : Bool) (κs : ℕ → Lfts 3) (a : (i : ℕ) → Dens (κs i) run.ps) (r : ℕ → Ran) (s : (i : ℕ) → AtExit (ended_of 3 run.ps run.r) (κs i))
-    (h : (i : ℕ) → run-reads.Post (κs i) (a i) (r i) (s i)) (stock : (i : ℕ) → (a i).0.now ≡ counts) (direction : (i : ℕ) → (a i).1.1.1.0 ≡ back)
+    (h : (i : ℕ) → run_reads.Post (κs i) (a i) (r i) (s i)) (stock : (i : ℕ) → (a i).0.now ≡ counts) (direction : (i : ℕ) → (a i).1.1.1.0 ≡ back)
     (lent : (i : ℕ) → (a (suc i)).1.0.now ≡ (s i).1.0.now) (walker_lent : (i : ℕ) → (a (suc i)).1.1.0 ≡ (r i).walker) (accepted : (r 0).refusal.no ≡ 0) where
   abbrev strips : ℕ → List ℕ
   strips i = (a i).1.0.now

@@ -13,9 +13,9 @@ use Rattle.stock.specs.declared.Refusal.{Refusal}
 use Rattle.numbering.specs.declared.number.Numbered.{Numbered}
 use Rattle.numbering.proofs.Theorems.{number_right, strip_right}
 use Rattle.numbering.proofs.number.number.Kinds as number
-use Rattle.numbering.proofs.number.number.Reads as number-reads
+use Rattle.numbering.proofs.number.number.Reads as number_reads
 use Rattle.numbering.proofs.strip.strip.Kinds as strip
-use Rattle.numbering.proofs.strip.strip.Reads as strip-reads
+use Rattle.numbering.proofs.strip.strip.Reads as strip_reads
 -- 2 is a last count of 0, at that kind and before 3; a count of 0 elsewhere is no refusal. So 0 is 2 at kind 1, 70 0 is 2 at kind 2, and 0 70 is 3
 pub use Rattle.rules.proofs.Checks.{stock_zero, accepted_back}
 pub use Rattle.rules.proofs.Marked.{refused_right}
@@ -38,16 +38,16 @@ pub use Rattle.rules.proofs.Marked.{book_2_0_3}
 
 module _ (below above : List ℕ) (κs κs' : Lfts 2) where
   -- any answers of Number for a strip of the one stock, and for that strip, renamed, of the other
-  pub number_stays : (a : Dens κs number.ps) (r : Numbered) (t : AtExit (ended_of 2 number.ps number.r) κs) → number-reads.Post κs a r t
-      → (a' : Dens κs' number.ps) (r' : Numbered) (t' : AtExit (ended_of 2 number.ps number.r) κs') → number-reads.Post κs' a' r' t'
+  pub number_stays : (a : Dens κs number.ps) (r : Numbered) (t : AtExit (ended_of 2 number.ps number.r) κs) → number_reads.Post κs a r t
+      → (a' : Dens κs' number.ps) (r' : Numbered) (t' : AtExit (ended_of 2 number.ps number.r) κs') → number_reads.Post κs' a' r' t'
       → a.0.now ≡ below ++ above → a'.0.now ≡ below ++ (0 ∷ above) → a'.1.0.now ≡ renamed (length below) a.1.0.now
       → r.refusal.no ≡ 0 → r'.refusal.no ≡ 0 → r'.number ≡ r.number
   number_stays a r t h a' r' t' h' e e' f z z' =
       (number_right κs' a' r' t' h').place z' ∙ rw (e', f) (number_sold_out below above a.1.0.now) ∙ sym (rw e at ((number_right κs a r t h).place z))
 
   -- any outcomes of Strip for one number
-  pub strip_stays : (a : Dens κs strip.ps) (r : Refusal) (t : AtExit (ended_of 2 strip.ps strip.r) κs) → strip-reads.Post κs a r t
-      → (a' : Dens κs' strip.ps) (r' : Refusal) (t' : AtExit (ended_of 2 strip.ps strip.r) κs') → strip-reads.Post κs' a' r' t'
+  pub strip_stays : (a : Dens κs strip.ps) (r : Refusal) (t : AtExit (ended_of 2 strip.ps strip.r) κs) → strip_reads.Post κs a r t
+      → (a' : Dens κs' strip.ps) (r' : Refusal) (t' : AtExit (ended_of 2 strip.ps strip.r) κs') → strip_reads.Post κs' a' r' t'
       → a.0.now ≡ below ++ above → a'.0.now ≡ below ++ (0 ∷ above) → a'.1.0 ≡ a.1.0 → a.1.0 < total (below ++ above)
       → r.no ≡ 0 → r'.no ≡ 0 → t'.1.1.0.now ≡ renamed (length below) t.1.1.0.now
   strip_stays a r t h a' r' t' h' e e' f l z z' =

@@ -15,7 +15,7 @@ use Rattle.rules.proofs.Places.{book_size, book_only, book_once, place_undone, p
 use Rattle.dictionary.specs.Dictionary.{dictionary}
 use Rattle.dictionary.proofs.Order.{Before}
 use Rattle.dictionary.proofs.Sorted.{Each, each_of, each_at, each_map, Rises, In, apart_of, at_in, in_at, length_in_order, each_in_order, in_in_order, in_order_rises, place_is}
-use Rattle.dictionary.proofs.Amounts.{Kinds, kinds_of, kinds_at, Same, count_hit, count_miss, lower, lower_miss, lower_suc, lower_mono, lower_same, lower_length, amounts, orders, orders_some, orders_same, orders_strip, orders_more, same_length}
+use Rattle.dictionary.proofs.Amounts.{Kinds, kinds_of, kinds_at, Same, count_hit, count_miss, lower, lower_miss, lower_suc, lower_mono, lower_same, lower_length, orders, orders_some, orders_same, orders_strip, orders_more, same_length}
 
 -- ---- shares: so many of the orders of n blocks begin with one of b of them
 

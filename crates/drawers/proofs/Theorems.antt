@@ -25,21 +25,21 @@ use Rattle.dictionary.proofs.Theorems.{dictionary_below}
 use Rattle.drawers.specs.declared.Filed.{Filed}
 use Rattle.drawers.specs.Answers.{last_no, dictionary_number_answer, dictionary_strip_answer, dictionary_strip_after, dictionary_next_nos, dictionary_next_answer, dictionary_next_after}
 use Rattle.drawers.proofs.number.dictionary_number.Kinds as number
-use Rattle.drawers.proofs.number.dictionary_number.Reads as number-reads
+use Rattle.drawers.proofs.number.dictionary_number.Reads as number_reads
 use Rattle.drawers.proofs.strip.dictionary_strip.Kinds as strip
-use Rattle.drawers.proofs.strip.dictionary_strip.Reads as strip-reads
+use Rattle.drawers.proofs.strip.dictionary_strip.Reads as strip_reads
 use Rattle.drawers.proofs.next.dictionary_next.Kinds as next
-use Rattle.drawers.proofs.next.dictionary_next.Reads as next-reads
+use Rattle.drawers.proofs.next.dictionary_next.Reads as next_reads
 
 -- ---- one outcome for each call
 
-pub dictionary_number_one_outcome : OneAnswer 2 number.ps number.r number-reads.Post
+pub dictionary_number_one_outcome : OneAnswer 2 number.ps number.r number_reads.Post
 dictionary_number_one_outcome κs a x y s t h k = h ∙ sym k
 
-pub dictionary_strip_one_outcome : OneOutcome 2 strip.ps strip.r (λ κs s. s.1.1.0.now) strip-reads.Post
+pub dictionary_strip_one_outcome : OneOutcome 2 strip.ps strip.r (λ κs s. s.1.1.0.now) strip_reads.Post
 dictionary_strip_one_outcome κs a x y s t h k = (h.0 ∙ sym k.0, h.1 ∙ sym k.1)
 
-pub dictionary_next_one_outcome : OneOutcome 2 next.ps next.r (λ κs s. s.1.0.now) next-reads.Post
+pub dictionary_next_one_outcome : OneOutcome 2 next.ps next.r (λ κs s. s.1.0.now) next_reads.Post
 dictionary_next_one_outcome κs a x y s t h k = (h.0 ∙ sym k.0, h.1 ∙ sym k.1)
 
 -- ---- number from strip, and strip from number
@@ -48,7 +48,7 @@ number_is_right : (counts s : List ℕ) (r : Filed) → r ≡ dictionary_number_
 unfolding dictionary_number_answer
 number_is_right counts s r h = number_right_of (listed counts) s (ap (λ (r : Filed). r.refusal.no) h) (ap (λ (r : Filed). r.number) h)
 
-pub dictionary_number_right : (κs : Lfts 2) (a : Dens κs number.ps) (r : Filed) (s : AtExit (ended_of 2 number.ps number.r) κs) → number-reads.Post κs a r s
+pub dictionary_number_right : (κs : Lfts 2) (a : Dens κs number.ps) (r : Filed) (s : AtExit (ended_of 2 number.ps number.r) κs) → number_reads.Post κs a r s
     → NumberRight (dictionary a.0.now) a.0.now a.1.0.now r.refusal.no r.number
 dictionary_number_right κs a r s h = number_is_right a.0.now a.1.0.now r h
 
@@ -57,7 +57,7 @@ strip_is_right : (counts : List ℕ) (i : ℕ) (buffer after : List ℕ) (r : Re
 unfolding dictionary_strip_answer dictionary_strip_after
 strip_is_right counts i buffer after r h k = strip_right_of (listed counts) i buffer (ap (λ (r : Refusal). r.no) h) k
 
-pub dictionary_strip_right : (κs : Lfts 2) (a : Dens κs strip.ps) (r : Refusal) (s : AtExit (ended_of 2 strip.ps strip.r) κs) → strip-reads.Post κs a r s
+pub dictionary_strip_right : (κs : Lfts 2) (a : Dens κs strip.ps) (r : Refusal) (s : AtExit (ended_of 2 strip.ps strip.r) κs) → strip_reads.Post κs a r s
     → StripRight (dictionary a.0.now) a.0.now a.1.0 a.1.1.0.now s.1.1.0.now r.no
 dictionary_strip_right κs a r s h = strip_is_right a.0.now a.1.0 a.1.1.0.now s.1.1.0.now r h.0 h.1
 
@@ -65,7 +65,7 @@ dictionary_strip_right κs a r s h = strip_is_right a.0.now a.1.0 a.1.1.0.now s.
 
 -- a call of each, b of the number and a of the strip, with the same stock
 module _ (κs κt : Lfts 2) (a : Dens κs strip.ps) (b : Dens κt number.ps) (r : Refusal) (q : Filed) (s : AtExit (ended_of 2 strip.ps strip.r) κs) (t : AtExit (ended_of 2 number.ps number.r) κt)
-    (h : strip-reads.Post κs a r s) (k : number-reads.Post κt b q t) (same : b.0.now ≡ a.0.now) where
+    (h : strip_reads.Post κs a r s) (k : number_reads.Post κt b q t) (same : b.0.now ≡ a.0.now) where
   -- the number of the strip that was written is the number that was given
   pub dictionary_number_of_strip : b.1.0.now ≡ s.1.1.0.now → r.no ≡ 0 → (q.refusal.no ≡ 0) × (q.number ≡ a.1.0)
   dictionary_number_of_strip e = undone_number (listed a.0.now) (dictionary_strip_right κs a r s h) (rw (same, e) at (dictionary_number_right κt b q t k))
@@ -151,6 +151,6 @@ next_is_right counts s after r h k =
       kept = λ e. k ∙ unless_refused s _ _ (λ m. e (no ∙ m));
     }
 
-pub dictionary_next_right : (κs : Lfts 2) (a : Dens κs next.ps) (r : Refusal) (s : AtExit (ended_of 2 next.ps next.r) κs) → next-reads.Post κs a r s
+pub dictionary_next_right : (κs : Lfts 2) (a : Dens κs next.ps) (r : Refusal) (s : AtExit (ended_of 2 next.ps next.r) κs) → next_reads.Post κs a r s
     → NextRight a.0.now a.1.0.now s.1.0.now r.no
 dictionary_next_right κs a r s h = next_is_right a.0.now a.1.0.now s.1.0.now r h.0 h.1

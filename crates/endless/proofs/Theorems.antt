@@ -28,16 +28,16 @@ use Rattle.endless.specs.declared.stand.Stood.{Stood}
 use Rattle.endless.specs.declared.next_paper.Stepped.{Stepped}
 use Rattle.endless.specs.Answers.{stand_answer, stand_after, paper_outcome, paper_steps, paper_after, next_paper_answer, next_paper_after}
 use Rattle.endless.proofs.stand.stand.Kinds as stand
-use Rattle.endless.proofs.stand.stand.Reads as stand-reads
+use Rattle.endless.proofs.stand.stand.Reads as stand_reads
 use Rattle.endless.proofs.next_paper.next_paper.Kinds as next_paper_lem
-use Rattle.endless.proofs.next_paper.next_paper.Reads as next-paper-reads
+use Rattle.endless.proofs.next_paper.next_paper.Reads as next_paper_reads
 
 -- ---- one outcome for each call
 
-pub stand_one_outcome : OneOutcome 2 stand.ps stand.r (λ κs s. s.1.0.now) stand-reads.Post
+pub stand_one_outcome : OneOutcome 2 stand.ps stand.r (λ κs s. s.1.0.now) stand_reads.Post
 stand_one_outcome κs a x y s t h k = (h.0 ∙ sym k.0, h.1 ∙ sym k.1)
 
-pub next_paper_one_outcome : OneOutcome 2 next_paper_lem.ps next_paper_lem.r (λ κs s. s.1.0.now) next-paper-reads.Post
+pub next_paper_one_outcome : OneOutcome 2 next_paper_lem.ps next_paper_lem.r (λ κs s. s.1.0.now) next_paper_reads.Post
 next_paper_one_outcome κs a x y s t h k = (h.0 ∙ sym k.0, h.1 ∙ sym k.1)
 
 -- ---- the standing strip
@@ -91,7 +91,7 @@ stand_is_right counts s after r h k = record {
     reversed_is : r.refusal.no ≡ 0 → r.reversed ≡ is_reversed s
     reversed_is e = reversed ∙ unless_passed false (is_reversed s) (first_of (check_nos counts s)) (sym no ∙ e)
 
-pub stand_right : (κs : Lfts 2) (a : Dens κs stand.ps) (r : Stood) (s : AtExit (ended_of 2 stand.ps stand.r) κs) → stand-reads.Post κs a r s
+pub stand_right : (κs : Lfts 2) (a : Dens κs stand.ps) (r : Stood) (s : AtExit (ended_of 2 stand.ps stand.r) κs) → stand_reads.Post κs a r s
     → StandRight a.0.now a.1.0.now s.1.0.now r.refusal.no r.turn r.reversed
 stand_right κs a r s h = stand_is_right a.0.now a.1.0.now s.1.0.now r h.0 h.1
 
@@ -152,6 +152,6 @@ next_paper_is_right counts s after given r h k =
           search_right stands_for_paper (later (dictionary counts) s) given s r.outcome r.steps after (end ∙ unless_passed 0 _ nos z) (steps ∙ unless_passed 0 _ nos z) (k ∙ unless_passed s _ nos z);
     }
 
-pub next_paper_right : (κs : Lfts 2) (a : Dens κs next_paper_lem.ps) (r : Stepped) (s : AtExit (ended_of 2 next_paper_lem.ps next_paper_lem.r) κs) → next-paper-reads.Post κs a r s
+pub next_paper_right : (κs : Lfts 2) (a : Dens κs next_paper_lem.ps) (r : Stepped) (s : AtExit (ended_of 2 next_paper_lem.ps next_paper_lem.r) κs) → next_paper_reads.Post κs a r s
     → NextPaperRight a.0.now a.1.0.now s.1.0.now a.1.1.0 r.refusal.no r.outcome r.steps
 next_paper_right κs a r s h = next_paper_is_right a.0.now a.1.0.now s.1.0.now a.1.1.0 r h.0 h.1

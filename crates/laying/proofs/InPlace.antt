@@ -12,7 +12,7 @@ use Rattle.rules.proofs.Listed.{face}
 use Rattle.laying.specs.Choice.{pick}
 use Rattle.laying.specs.Enlarged.{Enlarged, InParts}
 use Rattle.laying.proofs.Enlarging as enlarging
-use Rattle.laying.proofs.FromRight as from-right
+use Rattle.laying.proofs.FromRight as from_right
 use Rattle.laying.proofs.FromRight.{FromRight}
 
 pub record InPlace (kind : ℕ) (word₀ : List ℕ) (others index : ℕ) (word : List ℕ) (a b all i times : ℕ) (turned : Bool) : Type 0 where
@@ -24,7 +24,7 @@ module _ {kind : ℕ} {word₀ : List ℕ} {others index : ℕ} where
   in_place e s = let q = enlarging.quotient e in record { laid = rw q s; number = rw q e }
 
   pub start : {patterns : ℕ} → patterns ≡ binom (length word₀) others → others ≤ length word₀ → index < patterns → InPlace kind word₀ others index word₀ (length word₀) others patterns index 1 false
-  start is h l = in_place (enlarging.plain (length word₀) others index _ is l) (from-right.start kind word₀ others index h (rw is at l))
+  start is h l = in_place (enlarging.plain (length word₀) others index _ is l) (from_right.start kind word₀ others index h (rw is at l))
 
   module _ {word : List ℕ} {a b all i times : ℕ} {turned : Bool} (s : InPlace kind word₀ others index word a b all i times turned) (h : b < a) where
     -- the place that is written is in the word, and so is the block that is read for it
@@ -33,13 +33,13 @@ module _ {kind : ℕ} {word₀ : List ℕ} {others index : ℕ} where
 
     module _ {more in_k at larger : ℕ} (p : InParts a b (i / times) more in_k at larger) where
       on_k : at < in_k → InPlace kind word₀ others index (set word (a - 1) kind) (a - 1) b in_k (face turned (in_k - larger + 1) at) larger false
-      on_k l = in_place (enlarging.on_k p l turned refl) (from-right.on_k s.laid h _ refl (enlarging.before p l) refl)
+      on_k l = in_place (enlarging.on_k p l turned refl) (from_right.on_k s.laid h _ refl (enlarging.before p l) refl)
 
       pub block_left : in_k ≤ at → 0 < b
-      block_left l = from-right.block_left s.laid h _ refl (enlarging.past p l)
+      block_left l = from_right.block_left s.laid h _ refl (enlarging.past p l)
 
       on_r : in_k ≤ at → InPlace kind word₀ others index (set word (a - 1) (get_or word (b - 1) 0)) (a - 1) (b - 1) (more - in_k) (at - in_k) larger (not turned)
-      on_r l = in_place (enlarging.on_r p l (omega arith) (block_left l)) (from-right.on_r s.laid h _ refl (enlarging.past p l) refl)
+      on_r l = in_place (enlarging.on_r p l (omega arith) (block_left l)) (from_right.on_r s.laid h _ refl (enlarging.past p l) refl)
 
       pub block_here : {b' : ℕ} → b' ≡ pick (ltb at in_k) b (b - 1) → b' < length word
       block_here e = omega (arith, place_here, go (ltb at in_k) e)

@@ -19,14 +19,14 @@ use Rattle.measuring.specs.declared.distance.Apart.{Apart}
 use Rattle.measuring.specs.Answers.{distance_nos, distance_answer}
 use Rattle.measuring.proofs.Signed.{far_fits, fits_near}
 use Rattle.measuring.proofs.distance.distance.Kinds as distance
-use Rattle.measuring.proofs.distance.distance.Reads as distance-reads
+use Rattle.measuring.proofs.distance.distance.Reads as distance_reads
 
 -- two answers that the contract allows for one input are the same
-pub distance_one_outcome : OneAnswer 3 distance.ps distance.r distance-reads.Post
+pub distance_one_outcome : OneAnswer 3 distance.ps distance.r distance_reads.Post
 distance_one_outcome κs a x y s t h k = h ∙ sym k
 
 -- any answer r that the contract allows for a stock and two strips
-module _ (κs : Lfts 3) (a : Dens κs distance.ps) (r : Apart) (s : AtExit (ended_of 3 distance.ps distance.r) κs) (h : distance-reads.Post κs a r s) where
+module _ (κs : Lfts 3) (a : Dens κs distance.ps) (r : Apart) (s : AtExit (ended_of 3 distance.ps distance.r) κs) (h : distance_reads.Post κs a r s) where
   abbrev counts : List ℕ
   counts = a.0.now
 

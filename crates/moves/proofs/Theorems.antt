@@ -19,9 +19,9 @@ use Rattle.rules.proofs.Index.{rests, index}
 use Rattle.moves.specs.declared.Step.{Step}
 use Rattle.moves.specs.Steps.{step, step_of}
 use Rattle.moves.proofs.next.Kinds as next
-use Rattle.moves.proofs.next.Reads as next-reads
+use Rattle.moves.proofs.next.Reads as next_reads
 use Rattle.moves.proofs.prev.Kinds as prev
-use Rattle.moves.proofs.prev.Reads as prev-reads
+use Rattle.moves.proofs.prev.Reads as prev_reads
 
 -- the list of patterns in which that of the kind in a word of blocks stands
 abbrev pub patterns_of : ℕ → List ℕ → List Word
@@ -100,8 +100,8 @@ module _ (d : Bool) (kind : ℕ) (word : List ℕ) where
   move_right r e = right (move_e d (pattern kind word)) r e (e_move a b (pattern kind word) is_word d)
 
 -- any answer that the contracts allow
-pub next_right : (κs : Lfts 1) (args : Dens κs next.ps) (r : Step) (s : AtExit (ended_of 1 next.ps next.r) κs) → next-reads.Post κs args r s → Right false args.1.0 args.0.now r
+pub next_right : (κs : Lfts 1) (args : Dens κs next.ps) (r : Step) (s : AtExit (ended_of 1 next.ps next.r) κs) → next_reads.Post κs args r s → Right false args.1.0 args.0.now r
 next_right κs args r s h = move_right false args.1.0 args.0.now r h
 
-pub prev_right : (κs : Lfts 1) (args : Dens κs prev.ps) (r : Step) (s : AtExit (ended_of 1 prev.ps prev.r) κs) → prev-reads.Post κs args r s → Right true args.1.0 args.0.now r
+pub prev_right : (κs : Lfts 1) (args : Dens κs prev.ps) (r : Step) (s : AtExit (ended_of 1 prev.ps prev.r) κs) → prev_reads.Post κs args r s → Right true args.1.0 args.0.now r
 prev_right κs args r s h = move_right true args.1.0 args.0.now r h

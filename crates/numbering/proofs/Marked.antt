@@ -20,7 +20,7 @@ use Rattle.counting.proofs.Marked.{total_30_31, total_30_31_1}
 use Rattle.numbering.proofs.Right.{StripRight}
 use Rattle.numbering.proofs.Theorems.{strip_right}
 use Rattle.numbering.proofs.strip.strip.Kinds as strip
-use Rattle.numbering.proofs.strip.strip.Reads as strip-reads
+use Rattle.numbering.proofs.strip.strip.Reads as strip_reads
 
 abbrev pub marked : List ℕ
 marked = 30 ∷ 31 ∷ 1 ∷ []
@@ -49,7 +49,7 @@ unfolding stock_nos first_of sum
 marked_stock = accepted marked refl
 
 -- whatever Strip answers for the last number and a buffer of 62 bytes
-pub strip_30_31_1 : (κs : Lfts 2) (a : Dens κs strip.ps) (r : Refusal) (s : AtExit (ended_of 2 strip.ps strip.r) κs) → strip-reads.Post κs a r s
+pub strip_30_31_1 : (κs : Lfts 2) (a : Dens κs strip.ps) (r : Refusal) (s : AtExit (ended_of 2 strip.ps strip.r) κs) → strip_reads.Post κs a r s
     → a.0.now ≡ marked → a.1.0 ≡ 14428278950913093727 → length a.1.1.0.now ≡ 62 → (r.no ≡ 0) × (s.1.1.0.now ≡ marked_last)
 unfolding sum
 strip_30_31_1 κs a r s h e f l =

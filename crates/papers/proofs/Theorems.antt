@@ -15,15 +15,15 @@ use Rattle.rules.proofs.Checks.{accepted_pair, accepted_pair_back}
 use Rattle.papers.specs.declared.Asked.{Asked}
 use Rattle.papers.specs.Papers.{turned, hung, is_a_turn, same_paper_answer}
 use Rattle.papers.proofs.Turning.{hung_turn, turn_hung}
-use Rattle.papers.proofs.same_paper.Kinds as same-paper
+use Rattle.papers.proofs.same_paper.Kinds as same_paper
 use Rattle.papers.proofs.same_paper.Reads as reads
 
 -- two answers that the contract allows for one input are the same
-pub one_outcome : OneAnswer 3 same-paper.ps same-paper.r reads.Post
+pub one_outcome : OneAnswer 3 same_paper.ps same_paper.r reads.Post
 one_outcome κs a x y s t h k = h ∙ sym k
 
 -- any answer r that the contract allows for a stock and two strips
-module _ (κs : Lfts 3) (a : Dens κs same-paper.ps) (r : Asked) (s : AtExit (ended_of 3 same-paper.ps same-paper.r) κs) (h : reads.Post κs a r s) where
+module _ (κs : Lfts 3) (a : Dens κs same_paper.ps) (r : Asked) (s : AtExit (ended_of 3 same_paper.ps same_paper.r) κs) (h : reads.Post κs a r s) where
   abbrev counts : List ℕ
   counts = a.0.now
 

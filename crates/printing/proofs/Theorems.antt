@@ -36,17 +36,17 @@ use Rattle.printed.proofs.Lines.{some_strip, lines_many, line_at}
 use Rattle.showing.proofs.Showing.{some_shown, left_are, shows_next, left_next}
 use Rattle.printing.proofs.Refused.{none_refused}
 use Rattle.printing.proofs.Answering.{read_inside}
-use Rattle.printing.proofs.printer.first_line.Kinds as first-line
-use Rattle.printing.proofs.printer.first_line.Reads as first-line-reads
-use Rattle.printing.proofs.printer.next_line.Kinds as next-line
-use Rattle.printing.proofs.printer.next_line.Reads as next-line-reads
+use Rattle.printing.proofs.printer.first_line.Kinds as first_line
+use Rattle.printing.proofs.printer.first_line.Reads as first_line_reads
+use Rattle.printing.proofs.printer.next_line.Kinds as next_line
+use Rattle.printing.proofs.printer.next_line.Reads as next_line_reads
 
 -- ---- one outcome: two that the contract allows for one input are the same
 
-pub first_one_outcome : OneOutcome 2 first-line.ps first-line.r (λ κs s. s.1.1.0.now) first-line-reads.Post
+pub first_one_outcome : OneOutcome 2 first_line.ps first_line.r (λ κs s. s.1.1.0.now) first_line_reads.Post
 first_one_outcome κs a x y s t h k = (h.0 ∙ sym k.0, h.1 ∙ sym k.1)
 
-pub next_one_outcome : OneOutcome 1 next-line.ps next-line.r (λ κs s. s.1.0.now) next-line-reads.Post
+pub next_one_outcome : OneOutcome 1 next_line.ps next_line.r (λ κs s. s.1.0.now) next_line_reads.Post
 next_one_outcome κs a x y s t h k = (h.0 ∙ sym k.0, h.1 ∙ sym k.1)
 
 -- ---- what the output is; computed rows are in `Rows`
@@ -163,10 +163,10 @@ pub next_gives : (p : Printer) (line written : List ℕ) (r : Printed) → Sound
     → Prints (rest p) (after p) line written r → Gives (rest p) line written r
 next_gives p line written r s h = gives (rest p) line written r (after p) h (next_sound p s) (rest_next p s)
 
-pub first_right : (κs : Lfts 2) (a : Dens κs first-line.ps) (r : Printed) (s : AtExit (ended_of 2 first-line.ps first-line.r) κs) → first-line-reads.Post κs a r s
+pub first_right : (κs : Lfts 2) (a : Dens κs first_line.ps) (r : Printed) (s : AtExit (ended_of 2 first_line.ps first_line.r) κs) → first_line_reads.Post κs a r s
     → Gives (output a.1.0 a.0.now) a.1.1.0.now s.1.1.0.now r
 first_right κs a r s h = first_gives a.1.0 a.0.now _ _ r h
 
-pub next_right : (κs : Lfts 1) (a : Dens κs next-line.ps) (r : Printed) (s : AtExit (ended_of 1 next-line.ps next-line.r) κs) → Sound a.0 → next-line-reads.Post κs a r s
+pub next_right : (κs : Lfts 1) (a : Dens κs next_line.ps) (r : Printed) (s : AtExit (ended_of 1 next_line.ps next_line.r) κs) → Sound a.0 → next_line_reads.Post κs a r s
     → Gives (rest a.0) a.1.0.now s.1.0.now r
 next_right κs a r s k h = next_gives a.0 _ _ r k h

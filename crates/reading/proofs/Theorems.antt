@@ -20,9 +20,9 @@ use Rattle.reading.specs.Reading.{followed, record_nos, read_nos, read_answer, r
 use Rattle.reading.proofs.Exactly.{stock_back, strip_back, followed_back, none_back, read_room, read_stock, read_strip, read_right, read_is}
 use Rattle.reading.proofs.SoldOut.{two_never, zeros_are_one, sold_out_read}
 use Rattle.reading.proofs.reader.read_sheet.Kinds as old
-use Rattle.reading.proofs.reader.read_sheet.Reads as old-reader
+use Rattle.reading.proofs.reader.read_sheet.Reads as old_reader
 use Rattle.reading.proofs.reader.read_editions.Kinds as new
-use Rattle.reading.proofs.reader.read_editions.Reads as new-reader
+use Rattle.reading.proofs.reader.read_editions.Reads as new_reader
 
 -- a sheet that writing gives: of an accepted stock, a strip of it and no more moves than are left
 pub record Writes (counts s : List ℕ) (c : ℕ) (sheet : List ℕ) : Type 0 where
@@ -109,15 +109,15 @@ module _ (strides : Bool) (sheet buffer : List ℕ) (r : Readout) (after : List 
 
 -- ---- the calls' contracts: any answer that one allows, and what it leaves in the buffer
 
-pub old_reads : (κs : Lfts 2) (a : Dens κs old.ps) (r : Readout) (t : AtExit (ended_of 2 old.ps old.r) κs) → old-reader.Post κs a r t → Reads false a.0.now a.1.0.now r t.1.0.now
+pub old_reads : (κs : Lfts 2) (a : Dens κs old.ps) (r : Readout) (t : AtExit (ended_of 2 old.ps old.r) κs) → old_reader.Post κs a r t → Reads false a.0.now a.1.0.now r t.1.0.now
 old_reads κs a r t h = h
 
-pub new_reads : (κs : Lfts 2) (a : Dens κs new.ps) (r : Readout) (t : AtExit (ended_of 2 new.ps new.r) κs) → new-reader.Post κs a r t → Reads true a.0.now a.1.0.now r t.1.0.now
+pub new_reads : (κs : Lfts 2) (a : Dens κs new.ps) (r : Readout) (t : AtExit (ended_of 2 new.ps new.r) κs) → new_reader.Post κs a r t → Reads true a.0.now a.1.0.now r t.1.0.now
 new_reads κs a r t h = h
 
 -- two outcomes that a contract allows for one input have the same answer, and leave the same buffer
-pub old_one_outcome : OneOutcome 2 old.ps old.r (λ κs s. s.1.0.now) old-reader.Post
+pub old_one_outcome : OneOutcome 2 old.ps old.r (λ κs s. s.1.0.now) old_reader.Post
 old_one_outcome κs a x y s t h k = (h.0 ∙ sym k.0, h.1 ∙ sym k.1)
 
-pub new_one_outcome : OneOutcome 2 new.ps new.r (λ κs s. s.1.0.now) new-reader.Post
+pub new_one_outcome : OneOutcome 2 new.ps new.r (λ κs s. s.1.0.now) new_reader.Post
 new_one_outcome κs a x y s t h k = (h.0 ∙ sym k.0, h.1 ∙ sym k.1)

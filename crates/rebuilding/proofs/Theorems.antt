@@ -22,15 +22,15 @@ use Rattle.sheets.specs.Sheets.{sheet_of}
 use Rattle.sheets.proofs.Lengths.{sheet_long}
 use Rattle.records.specs.Records.{sheet_stock, sheet_strip, first_two_nos}
 use Rattle.records.proofs.FirstTwo.{first_two_long}
-use Rattle.writing.proofs.Theorems.{accepted as write-accepted, written as write-written, length_written}
+use Rattle.writing.proofs.Theorems.{accepted as write_accepted, written as write_written, length_written}
 use Rattle.writing.proofs.sheet.write_sheet.Kinds as writing
-use Rattle.writing.proofs.sheet.write_sheet.Reads as writing-reads
+use Rattle.writing.proofs.sheet.write_sheet.Reads as writing_reads
 use Rattle.following.specs.declared.Readout.{Readout}
 use Rattle.following.specs.Following.{as_readout}
 use Rattle.reading.proofs.SoldOut.{first_two_not_two}
 use Rattle.reading.proofs.Theorems.{Writes, written_is_read, read_is_written}
 use Rattle.reading.proofs.reader.read_sheet.Kinds as reading
-use Rattle.reading.proofs.reader.read_sheet.Reads as reading-reads
+use Rattle.reading.proofs.reader.read_sheet.Reads as reading_reads
 use Rattle.rebuilding.specs.declared.Rebuilt.{Rebuilt}
 use Rattle.rebuilding.specs.Rebuilding.{rebuilt_moves, proper_sheet, bytes_behind, differing, rebuild_nos, as_rebuilt, rebuild_answer, rebuild_out}
 use Rattle.rebuilding.proofs.Numbers.{few, first_none, none_first, all_same, first_differs}
@@ -159,20 +159,20 @@ module _ (κs : Lfts 2) (a : Dens κs rebuild.ps) (r : Rebuilt) (t : AtExit (end
 -- ---- with writing: lent the same stock, strip, count and buffer, it leaves the same bytes
 
 module _ (κs : Lfts 2) (a : Dens κs rebuild.ps) (r : Rebuilt) (t : AtExit (ended_of 2 rebuild.ps rebuild.r) κs) (h : reads.Post κs a r t) where
-  module _ (κw : Lfts 3) (b : Dens κw writing.ps) (w : Written) (u : AtExit (ended_of 3 writing.ps writing.r) κw) (k : writing-reads.Post κw b w u) where
+  module _ (κw : Lfts 3) (b : Dens κw writing.ps) (w : Written) (u : AtExit (ended_of 3 writing.ps writing.r) κw) (k : writing_reads.Post κw b w u) where
     pub as_written : r.refusal.no ≡ 0 → b.0.now ≡ sheet_stock a.0.now → b.1.0.now ≡ sheet_strip a.0.now → b.1.1.0 ≡ r.moves → b.1.1.1.0.now ≡ a.1.0.now
         → (w.refusal.no ≡ 0) × (w.length ≡ 83 + 3 * r.moves) × (u.1.1.1.0.now ≡ t.1.0.now)
     as_written e stock strip moves buffer =
         let p = accepts κs a r t h e in
         let own = rebuilt_writes κs a r t h e in
         let room : 83 + 3 * b.1.1.0 ≤ length b.1.1.1.0.now = rw (moves, buffer, moves_named κs a r t h e) p.1 in
-        let z = write-accepted κw b w u k (rw stock own.stock) (rw (stock, strip) own.strip) room (rw (stock, strip, moves) own.moves) in
+        let z = write_accepted κw b w u k (rw stock own.stock) (rw (stock, strip) own.strip) room (rw (stock, strip, moves) own.moves) in
         let n : w.length ≡ 83 + 3 * r.moves = length_written κw b w u k z ∙ rw (stock, strip, moves) (sheet_long _ _ own.stock own.strip r.moves own.moves) in
-        (z, n, write-written κw b w u k z ∙ rw (stock, strip, moves, n, buffer) (sym (rebuilt κs a r t h e)))
+        (z, n, write_written κw b w u k z ∙ rw (stock, strip, moves, n, buffer) (sym (rebuilt κs a r t h e)))
 
   -- ---- with reading
 
-  module _ (κr : Lfts 2) (b : Dens κr reading.ps) (q : Readout) (u : AtExit (ended_of 2 reading.ps reading.r) κr) (k : reading-reads.Post κr b q u) where
+  module _ (κr : Lfts 2) (b : Dens κr reading.ps) (q : Readout) (u : AtExit (ended_of 2 reading.ps reading.r) κr) (k : reading_reads.Post κr b q u) where
     -- a sheet that the reader accepts comes out unchanged with 0 differing, and c is its moves
     pub accepted_unchanged : q.refusal.no ≡ 0 → a.0.now ≡ b.0.now → length a.0.now ≤ length a.1.0.now
         → (r ≡ as_rebuilt fine (q.moves, [])) × (t.1.0.now ≡ a.0.now ++ drop (length a.0.now) a.1.0.now)

@@ -28,7 +28,7 @@ use Rattle.forms.specs.Forms.{form_of, form_length}
 use Rattle.forms.proofs.Lengths.{form_long_lem}
 use Rattle.forms.proofs.Theorems as writing
 use Rattle.forms.proofs.long.write_long.Kinds as write
-use Rattle.forms.proofs.long.write_long.Reads as write-reads
+use Rattle.forms.proofs.long.write_long.Reads as write_reads
 use Rattle.rewriting.specs.Rewriting.{moves_of, form_in, form_long, rewrite_nos, rewrite_answer, rewrite_out}
 use Rattle.rewriting.proofs.OneForm.{form_stock, form_strip, form_followed, form_fine, no_shorter}
 use Rattle.rewriting.proofs.rewrite.rewrite.Kinds as rewrite
@@ -84,7 +84,7 @@ module _ (counts s : List ℕ) (c : ℕ) (sheet : List ℕ) (w : Forms counts s 
 
 -- ---- writing: any answer r, and any sheet left
 
-module _ (κs : Lfts 3) (a : Dens κs write.ps) (r : Written) (s : AtExit (ended_of 3 write.ps write.r) κs) (h : write-reads.Post κs a r s) (e : r.refusal.no ≡ 0) where
+module _ (κs : Lfts 3) (a : Dens κs write.ps) (r : Written) (s : AtExit (ended_of 3 write.ps write.r) κs) (h : write_reads.Post κs a r s) (e : r.refusal.no ≡ 0) where
   -- the bytes that are written
   abbrev written : List ℕ
   written = take r.length s.1.1.1.0.now

@@ -21,11 +21,11 @@ use Rattle.searching.proofs.Theorems.{SearchRight, search_right, found_so, not_f
 use Rattle.touching.specs.Apart.{stands_apart}
 use Rattle.spacing.specs.declared.next_apart.Spaced.{Spaced}
 use Rattle.spacing.specs.Answers.{apart_outcome, apart_moves, apart_after, apart_walker, next_apart_answer, next_apart_after}
-use Rattle.spacing.proofs.next_apart.next_apart.Kinds as next-apart
+use Rattle.spacing.proofs.next_apart.next_apart.Kinds as next_apart
 use Rattle.spacing.proofs.next_apart.next_apart.Reads as reads
 
 -- two outcomes that the contract allows for one input are the same
-pub one_outcome : OneOutcome 2 next-apart.ps next-apart.r (λ κs s. s.1.0.now) reads.Post
+pub one_outcome : OneOutcome 2 next_apart.ps next_apart.r (λ κs s. s.1.0.now) reads.Post
 one_outcome κs a x y s t h k = (h.0 ∙ sym k.0, h.1 ∙ sym k.1)
 
 -- it refuses no more and no less than 1 to 6 and 10 say, and then answers 0, 0 and the walker that was lent, and the strip is as it was. Else it is right of a search among the strips that come
@@ -103,6 +103,6 @@ module _ (endless : Bool) (counts s : List ℕ) (w : Walker) (given : ℕ) (r : 
     walker_kept = walker_kept;
   }
 
-pub next_apart_right : (κs : Lfts 2) (a : Dens κs next-apart.ps) (r : Spaced) (s : AtExit (ended_of 2 next-apart.ps next-apart.r) κs) → reads.Post κs a r s
+pub next_apart_right : (κs : Lfts 2) (a : Dens κs next_apart.ps) (r : Spaced) (s : AtExit (ended_of 2 next_apart.ps next_apart.r) κs) → reads.Post κs a r s
     → NextApartRight a.1.1.1.0 a.0.now a.1.0.now a.1.1.0 a.1.1.1.1.0 r s.1.0.now
 next_apart_right κs a r s h = right a.1.1.1.0 _ _ _ _ r _ h

@@ -11,7 +11,7 @@ use Rattle.rules.specs.Book.{backward}
 use Rattle.rules.proofs.Listed.{flip}
 use Rattle.rules.proofs.Strips.{move_of}
 use Rattle.rules.proofs.Index.{rests}
-use Rattle.rules.proofs.Descent.{Descent, move_inside, others, fits, short, found as kind-moves, past_front, past_back}
+use Rattle.rules.proofs.Descent.{Descent, move_inside, others, fits, short, found as kind_moves, past_front, past_back}
 use Rattle.moves.specs.declared.Step.{Step}
 use Rattle.moves.specs.Steps.{step, step_of}
 use Rattle.walker.specs.declared.Walker.{Walker}
@@ -56,7 +56,7 @@ turn back counts s w v (suc i) lo hi p h f is =
       short = omega (arith, short back counts s v.strip i lo hi l h, v.stock.short);
       others = others back counts s v.strip i lo hi l h;
       moves = λ m is g.
-          let r = kind-moves back counts s v.strip i lo hi l h m.low m.high (step_some _ m is g) in
+          let r = kind_moves back counts s v.strip i lo hi l h m.low m.high (step_some _ m is g) in
           let b = move_inside back counts s v.strip _ r in
           (omega (arith, b.0, b.1), b.1, rw (r, k));
       past_front = λ m is g. past_front back counts s v.strip i lo hi l h (step_none _ m is g);

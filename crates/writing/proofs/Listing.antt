@@ -12,7 +12,7 @@ use Rattle.walker.specs.declared.Walker.{Walker}
 use Rattle.walking.specs.declared.Moved.{Moved}
 use Rattle.walking.specs.Answers.{left}
 use Rattle.walking.specs.Checked.{Checked, step_answer, step_strip}
-use Rattle.walking.proofs.Walked.{Walked, start as set_out, allowed, on as walks-on, shown}
+use Rattle.walking.proofs.Walked.{Walked, start as set_out, allowed, on as walks_on, shown}
 use Rattle.sheets.specs.Sheets.{move_records}
 use Rattle.sheets.proofs.Rest.{rest_of, Filled, more}
 
@@ -34,7 +34,7 @@ module _ (counts s rest₀ t : List ℕ) (w : Walker) (rest : List ℕ) (at i : 
   on k h r u is l room ys kept e =
       let z = allowed false counts s t w i k h v.walked r u is l in
       record {
-        walked = walks-on false counts s t w i k h v.walked r u is z;
+        walked = walks_on false counts s t w i k h v.walked r u is z;
         place = omega (arith, v.place);
         filled = rw (add-one i, shown false counts s t w i k h v.walked r u is z) (more rest₀ rest (move_records counts s i) at v.filled 3 ys (3 ∷ r.low ∷ r.high ∷ []) room kept e);
       }

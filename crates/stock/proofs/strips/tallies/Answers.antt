@@ -1,5 +1,5 @@
 -- `stock::strips::tallies` meets its contract.
-use Prim.Native.Nat.{◌<◌, ◌-◌}
+use Prim.Native.Nat.{◌<◌}
 use native.Mathlib.Omega.{arith}
 use lib.ListN.{get_or}
 use Rattle.rules.proofs.Counted.{counted_start, counted_on, counted_end}
