@@ -1,5 +1,6 @@
 // Showing: the strip that a printer shows, strip after strip of a stock's book, or standing strip after standing strip of its dictionary.
 #![tactic(auto)]
+
 ghost use Rattle.std.specs.Prelude.{◌<◌, ◌≡◌, Bool, true, false};
 ghost use Rattle.rules.specs.Stock.{IsStock};
 ghost use Rattle.showing.specs.States.{shown_at, nowhere, next_shown, Held, Shows};
@@ -105,6 +106,7 @@ fn next_in_papers(stock: &[u16], shown: Shown) -> Shown
 }
 
 // The next strip of either; none after index 4,095.
+#[tactic(auto, using(crate::proofs::Showing::held, crate::proofs::Showing::next_none, crate::proofs::Showing::next_last, printed::proofs::Lines::few_strips))]
 pub fn show_next(stock: &[u16], papers: bool, shown: Shown) -> Shown
     requires { Shows papers stock.now shown }
     ensures { result ≡ next_shown papers stock.now shown }
