@@ -17,7 +17,7 @@ use Rattle.rules.specs.SoldOut.{used}
 use Rattle.walker.specs.declared.Walker.{Walker}
 use Rattle.walking.specs.Answers.{shifted, along, left_along}
 use Rattle.walking.proofs.Along.{along_below}
-use Rattle.lifting.specs.Lifting.{small, lifted, times, each_in_arow, small_in_arow}
+use Rattle.lifting.specs.Lifting.{small, lifted, times, each_in_a_row, small_in_a_row}
 use Rattle.running.specs.declared.run.Ran.{Ran}
 use Rattle.running.specs.OneAfterOther.{all_listed}
 use Rattle.running.proofs.Theorems.{RunRight, run_right}
@@ -42,7 +42,7 @@ module _ (d : Bool) (counts s : List ℕ) (stock : IsStock counts) (h : IsStrip 
       let few : i ≤ m = omega (arith, led_many d counts s h places m t v) in
       ap (lifted counts) (led_turned d counts s h places m t v first i few) ∙ small_at counts stock.some d i (omega (arith, v.within, all_left d counts s first))
 
-  led_inside : left_along d counts t ≡ 0 → map (lifted counts) (stood s places) ≡ small_in_arow d counts
+  led_inside : left_along d counts t ≡ 0 → map (lifted counts) (stood s places) ≡ small_in_a_row d counts
   led_inside none = ap (map (lifted counts)) (led_whole d counts s h places m t v first none) ∙ small_inside counts stock.some d
 
 -- ---- one run, by any outcome that its contract allows
@@ -108,7 +108,7 @@ module _ (κs : Lfts 3) (a : Dens κs run.ps) (r : Ran) (s : AtExit (ended_of 3 
     pub run_shows : bar ≡ turn back (book counts)
     run_shows = led_whole back counts strip (own accepted) listed r.moves s.1.0.now (led accepted) first none_left
 
-    pub run_inside : map (lifted counts) bar ≡ small_in_arow back counts
+    pub run_inside : map (lifted counts) bar ≡ small_in_a_row back counts
     run_inside = led_inside back counts strip (accepted_stock accepted) (own accepted) listed r.moves s.1.0.now (led accepted) first none_left
 
 -- two bars beside each other, the second with the small stock without the sold-out kinds at its end, run from one end of the book to the other in one direction: the big one shows without kind k what
@@ -116,10 +116,10 @@ module _ (κs : Lfts 3) (a : Dens κs run.ps) (r : Ran) (s : AtExit (ended_of 3 
 module _ (κs κt : Lfts 3) (a : Dens κs run.ps) (b : Dens κt run.ps) (x y : Ran) (s : AtExit (ended_of 3 run.ps run.r) κs) (t : AtExit (ended_of 3 run.ps run.r) κt)
     (h : run_reads.Post κs a x s) (k : run_reads.Post κt b y t) (stock : b.0.now ≡ used (small a.0.now)) (direction : b.1.1.1.0 ≡ a.1.1.1.0) where
   pub bars_together : a.1.0.now ≡ get_or (turn a.1.1.1.0 (book a.0.now)) 0 [] → b.1.0.now ≡ get_or (turn b.1.1.1.0 (book b.0.now)) 0 [] → x.ended ≡ true → y.ended ≡ true
-      → map (lifted a.0.now) (stood a.1.0.now (take (2 * x.moves) s.1.1.1.1.0.now)) ≡ each_in_arow (times a.0.now) (stood b.1.0.now (take (2 * y.moves) t.1.1.1.1.0.now))
+      → map (lifted a.0.now) (stood a.1.0.now (take (2 * x.moves) s.1.1.1.1.0.now)) ≡ each_in_a_row (times a.0.now) (stood b.1.0.now (take (2 * y.moves) t.1.1.1.1.0.now))
   bars_together first first-too ended ended-too =
       let same_book : book b.0.now ≡ book (small a.0.now) = ap book stock ∙ small_used a.0.now in
-      run_inside κs a x s h first ended ∙ ap (each_in_arow (times a.0.now)) (sym (run_shows κt b y t k first-too ended-too ∙ rw (direction, same_book)))
+      run_inside κs a x s h first ended ∙ ap (each_in_a_row (times a.0.now)) (sym (run_shows κt b y t k first-too ended-too ∙ rw (direction, same_book)))
 
 -- ---- runs one after the other, each lent the strip and the walker that the one before left, so that a book is gone through for which no list is long enough
 
@@ -170,5 +170,5 @@ module _ (counts : List ℕ) (back : Bool) (κs : ℕ → Lfts 3) (a : (i : ℕ)
     pub runs_show : shown first (suc n) ≡ turn back (book counts)
     runs_show = led_whole back counts (strips 0) both.1 _ _ (strips (suc n)) (led_by (suc n)) first all_gone
 
-    pub runs_inside : map (lifted counts) (shown first (suc n)) ≡ small_in_arow back counts
+    pub runs_inside : map (lifted counts) (shown first (suc n)) ≡ small_in_a_row back counts
     runs_inside = led_inside back counts (strips 0) both.0 both.1 _ _ (strips (suc n)) (led_by (suc n)) first all_gone

@@ -15,7 +15,7 @@ use Rattle.rules.proofs.Books.{without, strip_below, laid_without, laid_strip}
 use Rattle.rules.proofs.Strips.{to_strip, book_rule}
 use Rattle.rules.proofs.Reduced.{reduced_without, reduced_all}
 use Rattle.rules.proofs.Places.{book_size, book_only}
-use Rattle.lifting.specs.Lifting.{each_in_arow}
+use Rattle.lifting.specs.Lifting.{each_in_a_row}
 use Rattle.lifting.proofs.Rows.{row_snake}
 
 -- kind k has c blocks, and the kinds before it are those of `below`
@@ -46,7 +46,7 @@ module _ (below : List ℕ) (c : ℕ) where
       ∙ map_always w patterns
       ∙ rw e.size
 
-  pub lifted_book : map (reduced (length below)) (book (below ++ (c ∷ []))) ≡ each_in_arow many (book below)
+  pub lifted_book : map (reduced (length below)) (book (below ++ (c ∷ []))) ≡ each_in_a_row many (book below)
   lifted_book =
       ap (map (reduced (length below))) (book_rule below c)
       ∙ map_snake (reduced (length below)) false _

@@ -5,14 +5,14 @@ use mathlib.Core.List.{[], ◌∷◌, ◌++◌, map}
 use lib.ListN.{replicate}
 use Rattle.rules.specs.Stock.{binom, sum}
 use Rattle.rules.specs.Book.{turn, book, reduced}
-use Rattle.lifting.specs.Lifting.{small, lifted, small_in_arow, each_in_arow}
+use Rattle.lifting.specs.Lifting.{small, lifted, small_in_a_row, each_in_a_row}
 
-pub on_1_1_2 : (map (lifted (1 ∷ 1 ∷ 2 ∷ [])) (turn false (book (1 ∷ 1 ∷ 2 ∷ []))) ≡ replicate 6 (1 ∷ 2 ∷ []) ++ replicate 6 (2 ∷ 1 ∷ [])) × (small_in_arow false (1 ∷ 1 ∷ 2 ∷ []) ≡ replicate 6 (1 ∷ 2 ∷ []) ++ replicate 6 (2 ∷ 1 ∷ []))
-unfolding book turn reduced binom sum each_in_arow
+pub on_1_1_2 : (map (lifted (1 ∷ 1 ∷ 2 ∷ [])) (turn false (book (1 ∷ 1 ∷ 2 ∷ []))) ≡ replicate 6 (1 ∷ 2 ∷ []) ++ replicate 6 (2 ∷ 1 ∷ [])) × (small_in_a_row false (1 ∷ 1 ∷ 2 ∷ []) ≡ replicate 6 (1 ∷ 2 ∷ []) ++ replicate 6 (2 ∷ 1 ∷ []))
+unfolding book turn reduced binom sum each_in_a_row
 on_1_1_2 = (refl, refl)
 
-pub back_1_1_2 : (map (lifted (1 ∷ 1 ∷ 2 ∷ [])) (turn true (book (1 ∷ 1 ∷ 2 ∷ []))) ≡ replicate 6 (2 ∷ 1 ∷ []) ++ replicate 6 (1 ∷ 2 ∷ [])) × (small_in_arow true (1 ∷ 1 ∷ 2 ∷ []) ≡ replicate 6 (2 ∷ 1 ∷ []) ++ replicate 6 (1 ∷ 2 ∷ []))
-unfolding book turn reduced binom sum each_in_arow
+pub back_1_1_2 : (map (lifted (1 ∷ 1 ∷ 2 ∷ [])) (turn true (book (1 ∷ 1 ∷ 2 ∷ []))) ≡ replicate 6 (2 ∷ 1 ∷ []) ++ replicate 6 (1 ∷ 2 ∷ [])) × (small_in_a_row true (1 ∷ 1 ∷ 2 ∷ []) ≡ replicate 6 (2 ∷ 1 ∷ []) ++ replicate 6 (1 ∷ 2 ∷ []))
+unfolding book turn reduced binom sum each_in_a_row
 back_1_1_2 = (refl, refl)
 
 pub on_2_0_3 : (map (lifted (2 ∷ 0 ∷ 3 ∷ [])) (book (2 ∷ 0 ∷ 3 ∷ [])) ≡ replicate 10 (1 ∷ 1 ∷ [])) × (book (small (2 ∷ 0 ∷ 3 ∷ [])) ≡ (1 ∷ 1 ∷ []) ∷ [])

@@ -15,7 +15,7 @@ use Rattle.rules.proofs.Listed.{get_or_map', length_turn, map_turn}
 use Rattle.rules.proofs.Places.{book_size}
 use Rattle.rules.proofs.Prefixes.{sum_take, total_next}
 use Rattle.rules.proofs.Used.{used_book, used_stock}
-use Rattle.lifting.specs.Lifting.{small, lifted, times, each_in_arow, small_in_arow}
+use Rattle.lifting.specs.Lifting.{small, lifted, times, each_in_a_row, small_in_a_row}
 use Rattle.lifting.proofs.Rows.{row_turn, row_at}
 use Rattle.lifting.proofs.Lifted.{lifted_book}
 
@@ -32,11 +32,11 @@ module _ (counts : List ℕ) (some : 1 ≤ length counts) where
   times_is : times counts ≡ binom (last + sum (small counts)) (sum (small counts))
   times_is = ap (λ (n : ℕ). binom n (N counts j)) (rw all at (sum_next counts j (omega arith)))
 
-  on : map (lifted counts) (book counts) ≡ each_in_arow (times counts) (book (small counts))
+  on : map (lifted counts) (book counts) ≡ each_in_a_row (times counts) (book (small counts))
   on = rw times_is (ap (λ (l : List ℕ). map (lifted counts) (book l)) (split_last counts some) ∙ (rw (length-take-le j counts (omega arith)) at (lifted_book (small counts) last)))
 
   -- with the highest kind off every strip of the book, on or back, what remains is the book of the kinds before it in the same direction, each strip C(N(k), N(k - 1)) times in a row
-  pub small_inside : (back : Bool) → map (lifted counts) (turn back (book counts)) ≡ small_in_arow back counts
+  pub small_inside : (back : Bool) → map (lifted counts) (turn back (book counts)) ≡ small_in_a_row back counts
   small_inside back = map_turn (lifted counts) back (book counts) ∙ ap (turn back) on ∙ row_turn (times counts) back (book (small counts))
 
   -- so the big book is so many times as long

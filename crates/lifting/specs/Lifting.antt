@@ -16,10 +16,10 @@ abbrev pub times : List ℕ → ℕ
 times counts = binom (N counts (length counts)) (N counts (length counts - 1))
 
 -- each strip of a list n times in a row
-unfoldable pub each_in_arow : ℕ → List (List ℕ) → List (List ℕ)
-each_in_arow n [] = []
-each_in_arow n (s ∷ l) = replicate n s ++ each_in_arow n l
+unfoldable pub each_in_a_row : ℕ → List (List ℕ) → List (List ℕ)
+each_in_a_row n [] = []
+each_in_a_row n (s ∷ l) = replicate n s ++ each_in_a_row n l
 
 -- the book of the first k - 1 kinds, on or back, each strip C(N(k), N(k - 1)) times in a row
-abbrev pub small_in_arow : Bool → List ℕ → List (List ℕ)
-small_in_arow back counts = each_in_arow (times counts) (turn back (book (small counts)))
+abbrev pub small_in_a_row : Bool → List ℕ → List (List ℕ)
+small_in_a_row back counts = each_in_a_row (times counts) (turn back (book (small counts)))
