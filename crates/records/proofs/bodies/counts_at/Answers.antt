@@ -10,7 +10,7 @@ use Rattle.records.proofs.bodies.counts_at.Goals as goal
 
 pub overflow_cast-counts : goal.overflow_cast-counts
 overflow_cast-counts c =
-    omega (arith, c.shared_slice_known-1.given (c.args.at + c.loop-i.i))
+    omega (arith, c.type_inv.sheet (c.args.at + c.loop-i.i))
 
 pub loop-i-preserved : goal.loop-i-preserved
 loop-i-preserved c =
