@@ -1,7 +1,7 @@
 -- `measuring::distance::distance` meets its contract: the checks in the order of its refusals, then the difference.
 use Prim.Native.Nat.{ℕ, ◌^◌, ◌<◌}
 use mathlib.Core.Path.{◌≡◌, ap, ◌∙◌}
-use mathlib.Core.List.{[], ◌∷◌}
+use mathlib.Core.List.{List, [], ◌∷◌}
 use native.Mathlib.Omega.{arith}
 use lib.IntN.{pos}
 use Rattle.rules.specs.Stock.{total, IsStock, IsStrip}
@@ -14,7 +14,7 @@ use Rattle.stock.specs.declared.Refusal.{Refusal}
 use Rattle.stock.proofs.Tested.{passed, stopped}
 use Rattle.measuring.specs.Answers.{as_apart, between, distance_nos, distance_answer}
 use Rattle.measuring.proofs.distance.distance.Goals as goal
-use Rattle.measuring.proofs.distance.distance.Goals.{Else-no-ne0, Else-strips-eq0}
+use Rattle.measuring.proofs.distance.distance.Goals.{Else-no-ne0}
 
 -- past them: the stock and both strips are accepted, and 7 decides
 module _ (c : Else-no-ne0) where
@@ -24,14 +24,9 @@ module _ (c : Else-no-ne0) where
   accepted : IsStock c.args.stock.now × IsStrip c.args.stock.now c.args.first.now × IsStrip c.args.stock.now c.args.second.now
   accepted = accepted_pair c.args.stock.now c.args.first.now c.args.second.now none_yet
 
-few : (c : Else-strips-eq0) → total c.args.stock.now < 2 ^ 64
-few c = some_few _ _ c.total_of-strips.ensures (omega arith)
-
-not_many : (c : Else-strips-eq0) → (first_of (many_no c.args.stock.now ∷ [])).0 ≡ 0
+not_many : (counts : List ℕ) → total counts < 2 ^ 64 → (first_of (many_no counts ∷ [])).0 ≡ 0
 unfolding first_of
-not_many c =
-    let few : total c.args.stock.now < 2 ^ 64 = some_few _ _ c.total_of-strips.ensures (omega arith) in
-    rw (many_passed c.args.stock.now few)
+not_many counts few = rw (many_passed counts few)
 
 -- 1 to 6 refuse
 pub returns-then-no-ne0 : goal.returns-then-no-ne0
@@ -55,12 +50,12 @@ returns-then-strips-eq0 c =
 pub number_of-from-requires : goal.number_of-from-requires
 number_of-from-requires c =
     let a = accepted (goal.at.number_of-from-requires c).Else-no-ne0 in
-    (c.patterns_of-patterns.ensures, a.0, a.1, few (goal.at.number_of-from-requires c).Else-strips-eq0)
+    (c.patterns_of-patterns.ensures, a.0, a.1, some_few _ _ c.total_of-strips.ensures (omega arith))
 
 pub number_of-to-requires : goal.number_of-to-requires
 number_of-to-requires c =
     let a = accepted (goal.at.number_of-to-requires c).Else-no-ne0 in
-    (c.patterns_of-patterns.ensures, a.0, a.2, few (goal.at.number_of-to-requires c).Else-strips-eq0)
+    (c.patterns_of-patterns.ensures, a.0, a.2, some_few _ _ c.total_of-strips.ensures (omega arith))
 
 pub returns : goal.returns
 unfolding distance_answer distance_nos
@@ -69,5 +64,5 @@ returns c =
     e
     ∙ ap (λ (from : ℕ). between from c.number_of-to.result.number) c.number_of-from.ensures.0
     ∙ ap (λ (to : ℕ). between (place_in (book c.args.stock.now) c.args.first.now) to) c.number_of-to.ensures.0
-    ∙ answer_next as_apart (pos 0) _ (many_no c.args.stock.now ∷ []) _ (not_many (goal.at.returns c).Else-strips-eq0)
+    ∙ answer_next as_apart (pos 0) _ (many_no c.args.stock.now ∷ []) _ (not_many c.args.stock.now (some_few _ _ c.total_of-strips.ensures (omega arith)))
     ∙ answer_next as_apart (pos 0) _ (pair_nos c.args.stock.now c.args.first.now c.args.second.now) _ (none_yet (goal.at.returns c).Else-no-ne0)
