@@ -1,8 +1,8 @@
 // Following the records of a press sheet from its strip to its end.
 #![tactic(auto)]
 
-pub mod moves;
 mod record;
+pub mod sheet_moves;
 
 use stock::Refusal;
 

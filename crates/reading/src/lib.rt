@@ -1,5 +1,5 @@
 // Reading press sheets.
 #![tactic(auto)]
 
-mod moves;
 pub mod reader;
+mod sheet_moves;

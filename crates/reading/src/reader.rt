@@ -5,7 +5,7 @@ ghost use Rattle.records.specs.Opened.{Opened, Ready};
 ghost use Rattle.reading.specs.Reading.{read_answer, read_buffer};
 ghost use Rattle.reading.specs.Halves.{moves_answer, moves_buffer};
 
-use crate::moves::moves_at;
+use crate::sheet_moves::moves_at;
 use following::Readout;
 use records::opening::{Opening, opening_at};
 

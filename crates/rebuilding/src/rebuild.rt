@@ -8,8 +8,8 @@ use crate::differing::differ;
 use records::opening::opening_at;
 use stock::Refusal;
 use walker::directions::walker_of;
-use writing::moves::moves_up_to;
 use writing::room::has_room;
+use writing::sheet_moves::moves_up_to;
 use writing::whole::put_sheet;
 
 // A rebuilding that is refused.

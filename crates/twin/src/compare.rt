@@ -1,8 +1,7 @@
 // A whole book compared with what the calls answer.
-use crate::cuts::compare_cuts;
+use crate::cut_counts::compare_cuts;
 use crate::filed::compare_dictionary;
 use crate::hung::compare_hung;
-use crate::moves::move_agrees;
 use crate::orders::compare_orders;
 use crate::pairs::compare_pair;
 use crate::replays::compare_few;
@@ -13,6 +12,7 @@ use crate::single::{count_agrees, first_agrees, number_agrees, open_agrees, stri
 use crate::spoiled::compare_sheets;
 use crate::tally;
 use crate::tally::{Tally, note};
+use crate::walk_moves::move_agrees;
 use crate::ways::compare_way;
 
 // The strip of a number by itself.

@@ -1,5 +1,5 @@
 // The calls on dictionary numbers compared with a book in dictionary order, which Next paper is then compared with.
-use crate::dictionary::{MOST, Order, arrange, entry};
+use crate::dictionary_order::{MOST, Order, arrange, entry};
 use crate::rows::{beside, copy, same, strip_at};
 use crate::search::compare_papers;
 use crate::single::is;

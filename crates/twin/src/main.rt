@@ -12,14 +12,13 @@
 
 mod books;
 mod compare;
-mod cuts;
-mod dictionary;
+mod cut_counts;
+mod dictionary_order;
 mod editions;
 mod endings;
 mod filed;
 mod formed;
 mod hung;
-mod moves;
 mod orders;
 mod pairs;
 mod parting;
@@ -40,6 +39,7 @@ mod strode;
 mod tally;
 mod turns;
 mod vast;
+mod walk_moves;
 mod ways;
 
 ghost use Rattle.std.specs.Prelude.{◌≤◌};

@@ -1,6 +1,6 @@
 // The calls that search compared with strips in rows: Next paper with those of a dictionary, Next apart with those of a book. Which call it is, and for
 // Next apart whether the strip is hung endless, is told by the tally's number for it.
-use crate::dictionary::{MOST, Order, put_rows};
+use crate::dictionary_order::{MOST, Order, put_rows};
 use crate::rows::{copy, directions_at, front, last, same, strip_at};
 use crate::sought::{
     Marks, Outcome, Start, answer_agrees, due, given_steps, marked_from, put_mark, steps, ways,

@@ -1,6 +1,6 @@
 // What is to come of a search among strips that stand in rows, one behind the other: each strip that is looked for is marked, and a step leads to the next
 // row.
-use crate::dictionary::MOST;
+use crate::dictionary_order::MOST;
 use crate::single::is;
 use stock::Refusal;
 

@@ -1,6 +1,6 @@
 // The turns of a strip by the rule itself: each is written down as a whole, and whole turns are compared. They stand in a row: first the strip as it stands,
 // turned by 0 to n - 1 places, and then the strip read backwards, turned by as many. So the first of the smallest is the one that Stand is to take.
-use crate::dictionary::before;
+use crate::dictionary_order::before;
 use crate::rows::{block, front, same};
 
 // A strip, and zeros behind it, which decide nothing where two of one length are compared.

@@ -3,8 +3,8 @@ ghost use Rattle.std.specs.Prelude.{◌≡◌};
 ghost use Rattle.rules.specs.Stock.{IsStock, IsStrip};
 ghost use Rattle.sheets.specs.Writing.{as_written, write_answer, sheet_written};
 
-use crate::moves::moves_up_to;
 use crate::room::has_room;
+use crate::sheet_moves::moves_up_to;
 use crate::whole::put_sheet;
 use sheets::Written;
 use stock::{Refusal, check_strip};

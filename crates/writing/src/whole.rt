@@ -4,7 +4,7 @@ ghost use Rattle.walking.specs.Answers.{left};
 ghost use Rattle.walking.specs.Checked.{Checked};
 ghost use Rattle.sheets.specs.Sheets.{sheet_of};
 
-use crate::moves::put_moves;
+use crate::sheet_moves::put_moves;
 use copying::copied;
 use sheets::records::{put_end, put_stock, put_strip};
 use walker::Walker;
