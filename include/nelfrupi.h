@@ -22,8 +22,8 @@
  *   taken, and a bad one is refused. A walker's sixteen bytes are each true or false.
  *   No call keeps a pointer, takes memory or has a state of its own. Every call comes back.
  *   Besides the caller's stack nelfrupi_walk and nelfrupi_drive need up to 11 KiB, for a recursion that is at most 64
- *   deep, nelfrupi_replay up to 5 KiB, for its flags, and each other call up to 2 KiB. This is measured on the library as
- *   it is built now, and is not promised.
+ *   deep, nelfrupi_replay up to 5 KiB, for its flags, and each other call up to 2 KiB. This was measured on the library as
+ *   an older kit built it, and is not promised.
  *
  * REFUSALS
  *   Each answer says in `refusal` whether the call was accepted (no 0, place 0) or refused (a number of this table, and

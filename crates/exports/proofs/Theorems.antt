@@ -1,5 +1,4 @@
--- Theorems on the press driver's call, over its contract. The borrow checker gives no plain reading of a contract over a lent record, so the reading is written
--- here, and `drive_is` shows that it is what the contract says.
+-- Theorems on the press driver's call, over its contract. The reading of that contract is written here, and `drive_is` shows that it is what the contract says.
 use Prim.Native.Nat.{ℕ}
 use mathlib.Core.Path.{◌≡◌, refl, sym, ap, ◌∙◌}
 use mathlib.Core.Bool.{Bool}
