@@ -1,4 +1,5 @@
-// The open calls for C. Each has the contract of the call that it passes on; include/nelfrupi.h tells a C programmer what it says.
+// The open calls as C has them. Each has the contract of the call that it passes on; `exports_c` has it under the symbol that C links, and
+// include/nelfrupi.h tells a C programmer what it says.
 #![tactic(auto)]
 
 pub mod driving;
