@@ -4,7 +4,7 @@
 usage: tools/respell.py   at the top of a repository that port.py has turned, once
 
 tools/respell.txt has a line for each name: the old spelling and the new one. A name that a file takes from a library stays in that file.
-Names are changed in specs/ and proofs/, in the clauses and comments of .rt files, in must-fail edits, and between back quotes in README.md and docs/.
+Names are changed in specs/ and proofs/, in the clauses of .rt files, in must-fail edits, and between back quotes in comments, README.md and docs/.
 """
 import os
 import re
