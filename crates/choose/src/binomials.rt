@@ -6,6 +6,7 @@ ghost use Rattle.rules.specs.Book.{odd};
 use crate::scaling::scale_twice;
 
 // Two steps along a diagonal of Pascal's triangle: from C(d + i, i) to C(d + i + 2, i + 2), by two fractions.
+#[tactic(auto, using(crate::proofs::Scaled::two_more, crate::proofs::Pascal::binom_at_most))]
 fn two_steps(c: u64, d: usize, i: usize) -> u64
     requires { (c ≡ binom (d + i) i) × (d + (i + 2) ≤ 64) }
     ensures { result ≡ binom (d + (i + 2)) (i + 2) }
@@ -14,33 +15,32 @@ fn two_steps(c: u64, d: usize, i: usize) -> u64
 }
 
 // C(d + m, m): from C(d, 0), which is 1, or where m is odd from C(d + 1, 1), which is d + 1.
+#[tactic(auto, using(crate::proofs::Pascal::begins))]
 fn diagonal(d: usize, m: usize) -> u64
     requires { d + m ≤ 64 }
     ensures { result ≡ binom (d + m) m }
 {
-    let mut i = m % 2;
-    let first = 1 + i * d;
+    let odd = m % 2;
+    let first = 1 + odd * d;
     let mut c = first as u64;
-    while i < m {
-        c = two_steps(c, d, i);
-        i += 2;
+    for pair in 0..m / 2 {
+        c = two_steps(c, d, odd + 2 * pair);
     }
     c
 }
 
 // C(a, b), along the shorter of its two diagonals.
+#[tactic(auto, using(crate::proofs::Pascal::by_shorter))]
 pub fn choose(a: usize, b: usize) -> u64
     requires { (b ≤ a) × (a ≤ 64) }
     ensures { result ≡ binom a b }
 {
-    let other = a - b;
-    if b < other {
-        return diagonal(other, b);
-    }
-    diagonal(b, other)
+    let shorter = b.min(a - b);
+    diagonal(a - shorter, shorter)
 }
 
 // Whether C(a, b) is odd: exactly where b and a - b have no binary digit in common.
+#[tactic(auto, using(crate::proofs::Odd::odd_is))]
 pub fn odd_choose(a: usize, b: usize) -> bool
     requires { b ≤ a }
     ensures { result ≡ odd (binom a b) }

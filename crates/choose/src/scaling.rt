@@ -1,10 +1,11 @@
 // A number times a fraction, where the product may not fit 64 bits.
 ghost use Rattle.std.specs.Prelude.{◌*◌, ◌/◌, ◌^◌, ◌≤◌, ◌<◌, ◌≡◌};
 
-// 4,096 times this, and 4,095 more, is the largest 64-bit number.
-const SMALL: u64 = 4503599627370495;
+// The largest number whose product with 4,096 fits 64 bits.
+const SMALL: u64 = u64::MAX / 4096;
 
 // c * x / d, rounded down; only the quotient has to fit. Where c is large, d is taken out of it first, and then out of what that leaves.
+#[tactic(auto, using(crate::proofs::Fractions::parts))]
 pub fn scale(c: u64, x: u64, d: u64) -> u64
     requires { (0 < d) × (d ≤ 4096) × (x ≤ 4096) × (c * x / d < 2 ^ 64) }
     ensures { result ≡ c * x / d }
