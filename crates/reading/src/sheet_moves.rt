@@ -3,9 +3,9 @@ ghost use Rattle.std.specs.Prelude.{◌≡◌};
 ghost use Rattle.records.specs.Opened.{Ready};
 ghost use Rattle.reading.specs.Halves.{moves_answer, moves_buffer};
 
+use copying::copy;
 use following::Readout;
 use following::sheet_moves::{follow_from, refused};
-use records::bodies::lay_in;
 use records::opening::Opening;
 
 // Reads on from a byte, where the stock and the strip before it are read: 4, then their refusal, then the moves, with strides or without, and the
@@ -38,6 +38,6 @@ pub fn moves_at(
     if last != 0 {
         return readout;
     }
-    lay_in(&strip[..blocks], buffer);
+    copy(&strip[..blocks], buffer);
     readout
 }

@@ -1,17 +1,22 @@
--- Proofs. The records of a sheet: the laws of their definitions as the code finds them, and of a loop that copies.
+-- Proofs. The records of a sheet: the laws of their definitions as the code finds them.
 use Prim.Native.Nat.{ℕ, zero, suc, ◌+◌, ◌≤◌, ◌<◌}
 use mathlib.Core.Path.{◌≡◌, refl, sym, ap, ◌∙◌}
-use mathlib.Core.Bool.{Bool, true, false, ◌||◌}
+use mathlib.Core.Bool.{Bool, true, false, ◌&&◌, ◌||◌}
 use mathlib.Core.List.{List, [], ◌∷◌, ◌++◌}
 use native.Mathlib.Numerals.{add-one}
 use native.Mathlib.Omega.{arith}
 use borrow.Author.Tests.{eq-eqb, ne_eqb, lt-ltb, le-ltb}
-use lib.ListN.{length, get_or, take, drop, set, replicate, length-take, drop_of_length-le}
-use lib.Seq.{drop-cons, take-suc, length-take-le}
+use Rattle.std.specs.List.{list_all}
+use Rattle.std.specs.Array.{IsFromFnResultFrom}
+use Rattle.std.specs.Fn.{Mut, Called}
+use Rattle.std.proofs.Common.{zero-add, add-zero, subst, Option, None, Some, MatchOption}
+use lib.Dec.{eqb}
+use lib.ListN.{length, get_or, take, replicate}
+use lib.Seq.{take-suc, length-take-le}
 use Rattle.rules.specs.Book.{same}
 use Rattle.rules.specs.Refusals.{fine}
-use Rattle.rules.specs.SoldOut.{used}
-use Rattle.rules.proofs.Used.{used_zero, used_last, used_within}
+use Rattle.rules.specs.SoldOut.{until_last, used}
+use Rattle.rules.proofs.Used.{used_last, used_within}
 use Rattle.records.specs.Records.{record_no}
 
 -- ---- a record at a byte
@@ -34,6 +39,20 @@ module _ (kind body at : ℕ) (sheet : List ℕ) where
   unfolding record_no
   record_there e h = rw (eq-eqb (get_or sheet at 0) kind e, le-ltb (length sheet) (at + 1 + body) (omega arith))
 
+-- ---- an array that is made place by place, where each call gives what `gives` says of its place
+
+module _ {F : Type 0} (g : Mut F (ℕ × Unit {0}) ℕ) (f : F) (gives : ℕ → ℕ) (call : (i y : ℕ) (q : F) → Called g f (i, tt) y q → (q ≡ f) × (y ≡ gives i)) (l : List ℕ) where
+  made_from : (from n : ℕ) → IsFromFnResultFrom g f l from n → (k : ℕ) → k < n → get_or l (from + k) 0 ≡ gives (from + k)
+  made_from from zero made k h = absurd (omega arith)
+  made_from from (suc n) made zero h = rw add-zero (made.2.1 0 ∙ (call from made.1 made.0 made.3).1)
+  made_from from (suc n) made (suc k) h =
+      let rest : IsFromFnResultFrom g f l (from + 1) n = subst (λ (q : F). IsFromFnResultFrom g q l (from + 1) n) (call from made.1 made.0 made.3).0 made.4 in
+      let e : from + suc k ≡ from + 1 + k = omega arith in
+      rw e (made_from (from + 1) n rest k (omega arith))
+
+  pub made_at : (n : ℕ) → IsFromFnResultFrom g f l 0 n → (k : ℕ) → k < n → get_or l k 0 ≡ gives k
+  made_at n made k h = rw zero-add at (made_from 0 n made k h)
+
 -- ---- the counts to the last one that is not 0
 
 -- as many kinds as are used, of the counts
@@ -44,44 +63,33 @@ module _ (l : List ℕ) (kinds : ℕ) (is : kinds ≡ length (used l)) where
   pub used_long : kinds ≡ length (take kinds l)
   used_long = sym (length-take-le kinds l used_fits)
 
--- a loop that looks for it from the end: all counts from `kinds` on are 0
-module _ (l : List ℕ) (last kinds : ℕ) (one : suc last ≡ kinds) (inside : kinds ≤ length l) (is : used l ≡ used (take kinds l)) where
-  pub used_on : get_or l last 0 ≡ 0 → used l ≡ used (take last l)
-  used_on e = is ∙ rw (← one, take-suc l last 0 (omega arith), e) (used_zero (take last l))
+-- the place of the last count that is not 0, or that there is none
+abbrev pub LastUsed : List ℕ → Option ℕ → Type 0
+LastUsed l o = MatchOption o ((k : ℕ) → k < length l → get_or l k 0 ≡ 0)
+    (λ i. (i < length l) × (get_or l i 0 ≡ 0 → ⊥) × ((k : ℕ) → i < k → k < length l → get_or l k 0 ≡ 0))
 
-  pub used_here : (get_or l last 0 ≡ 0 → ⊥) → kinds ≡ length (used l)
-  used_here h =
-      let e : used l ≡ take kinds l = is ∙ rw (← one, take-suc l last 0 (omega arith)) (used_last (take last l) (get_or l last 0) h) in
-      sym (ap length e ∙ length-take kinds l ∙ omega arith)
+-- counts of which all from `kinds` on are 0
+used_to : (l : List ℕ) (kinds : ℕ) → ((k : ℕ) → kinds ≤ k → k < length l → get_or l k 0 ≡ 0) → used l ≡ used (take kinds l)
+unfolding used
+used_to [] zero h = refl
+used_to [] (suc n) h = refl
+used_to (x ∷ l) zero h = rw (h 0 (omega arith) (omega arith), used_to l zero (λ k a b. h (suc k) (omega arith) (omega arith)))
+used_to (x ∷ l) (suc n) h = ap (until_last x) (used_to l n (λ k a b. h (suc k) (omega arith) (omega arith)))
+
+pub kinds_to_last : (l : List ℕ) (o : Option ℕ) (kinds : ℕ) → LastUsed l o → MatchOption o (kinds ≡ 0) (λ i. kinds ≡ i + 1) → kinds ≡ length (used l)
+unfolding used
+kinds_to_last l None kinds h e = e ∙ sym (ap length (used_to l 0 (λ k a b. h k b)))
+kinds_to_last l (Some i) kinds h e =
+    let s : take (i + 1) l ≡ take i l ++ (get_or l i 0 ∷ []) = rw (add-one i) (take-suc l i 0 h.0) in
+    let u : used l ≡ take (i + 1) l = used_to l (i + 1) (λ k a b. h.2 k (omega arith) b) ∙ rw s (used_last (take i l) (get_or l i 0) h.1) in
+    e ∙ sym (ap length u ∙ length-take-le (i + 1) l (omega (arith, h.0)))
 
 -- ---- bytes that are all 0
 
 abbrev pub zeros : List ℕ → Bool
 zeros l = same l (replicate (length l) 0)
 
-module _ (l : List ℕ) (i : ℕ) where
-  pub zeros_on : i < length l → get_or l i 0 ≡ 0 → zeros (drop i l) ≡ zeros (drop (i + 1) l)
-  unfolding same
-  zeros_on h e = rw (add-one i, drop-cons l i 0 h, eq-eqb (get_or l i 0) 0 e)
-
-  pub zeros_stop : i < length l → (get_or l i 0 ≡ 0 → ⊥) → zeros (drop i l) ≡ false
-  unfolding same
-  zeros_stop h e = rw (drop-cons l i 0 h, ne_eqb (get_or l i 0) 0 e)
-
-  pub zeros_end : length l ≤ i → zeros (drop i l) ≡ true
-  unfolding same
-  zeros_end h = rw (drop_of_length-le l h)
-
--- ---- a loop that copies s to the start of d: i elements are there
-
-abbrev pub laid : List ℕ → List ℕ → ℕ → List ℕ
-laid s d i = take i s ++ drop i d
-
-laid_suc : (s d : List ℕ) (i : ℕ) → i < length s → i < length d → set (laid s d i) i (get_or s i 0) ≡ laid s d (suc i)
-laid_suc [] d i h k = absurd (omega arith)
-laid_suc (x ∷ s) [] i h k = absurd (omega arith)
-laid_suc (x ∷ s) (y ∷ d) zero h k = refl
-laid_suc (x ∷ s) (y ∷ d) (suc i) h k = ap (λ (r : List ℕ). x ∷ r) (laid_suc s d i (omega arith) (omega arith))
-
-pub laid_on : (s d : List ℕ) (i : ℕ) → i < length s → i < length d → set (laid s d i) i (get_or s i 0) ≡ laid s d (i + 1)
-laid_on s d i h k = rw (add-one i) (laid_suc s d i h k)
+pub zeros_all : (l : List ℕ) → list_all (λ b. eqb b 0) l ≡ zeros l
+unfolding same
+zeros_all [] = refl
+zeros_all (x ∷ l) = ap (λ b. eqb x 0 && b) (zeros_all l)

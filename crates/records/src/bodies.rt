@@ -1,10 +1,11 @@
 // The records of a sheet: whether one stands at a byte, and what is in its body.
-ghost use Rattle.std.specs.Prelude.{◌+◌, ◌≤◌, ◌≡◌, ◌++◌, length, take, drop, replicate};
+ghost use Rattle.std.specs.Prelude.{◌+◌, ◌≤◌, ◌≡◌, length, take, drop, replicate};
 ghost use Rattle.rules.specs.Book.{same};
 ghost use Rattle.rules.specs.SoldOut.{used};
 ghost use Rattle.stock.specs.Refused.{refusal};
 ghost use Rattle.records.specs.Records.{record_no};
 
+use std::array;
 use stock::Refusal;
 
 // Refusal 11 where the record at a byte is not of this kind or its body is cut short.
@@ -32,53 +33,20 @@ pub fn counts_at(sheet: &[u8], at: usize) -> [u16; 16]
     requires { at + 16 ≤ length sheet.now }
     ensures { result ≡ take 16 (drop at sheet.now) }
 {
-    let mut counts: [u16; 16] = [0; 16];
-    let mut i: usize = 0;
-    while i < 16 {
-        counts[i] = sheet[at + i] as u16;
-        i += 1;
-    }
-    counts
+    array::from_fn(|i| u16::from(sheet[at + i]))
 }
 
 // How many kinds the counts have, to the last one that is not 0.
 pub fn used_kinds(counts: &[u16]) -> usize
     ensures { result ≡ length (used counts.now) }
 {
-    let mut kinds = counts.len();
-    while 0 < kinds {
-        let last = kinds - 1;
-        if counts[last] != 0 {
-            return kinds;
-        }
-        kinds = last;
-    }
-    0
+    let last = counts.iter().rposition(|count| *count != 0);
+    last.map_or(0, |last| last + 1)
 }
 
 // Whether all bytes are 0.
 pub fn all_zero(bytes: &[u8]) -> bool
     ensures { result ≡ same bytes.now (replicate (length bytes.now) 0) }
 {
-    let mut i = 0;
-    while i < bytes.len() {
-        let byte = bytes[i];
-        i += 1;
-        if byte != 0 {
-            return false;
-        }
-    }
-    true
-}
-
-// Lays blocks at the start of a buffer, whose later bytes stay.
-pub fn lay_in(blocks: &[u8], buffer: &mut [u8])
-    requires { length blocks.now ≤ length buffer.old }
-    ensures { buffer.new ≡ blocks.now ++ drop (length blocks.now) buffer.old }
-{
-    let mut i = 0;
-    while i < blocks.len() {
-        buffer[i] = blocks[i];
-        i += 1;
-    }
+    bytes.iter().all(|byte| *byte == 0)
 }

@@ -5,7 +5,8 @@ ghost use Rattle.rules.specs.Refusals.{first_of};
 ghost use Rattle.stock.specs.Refused.{refusal};
 ghost use Rattle.records.specs.Opened.{stock_at_nos, strip_at_nos, opening_nos, Opened};
 
-use crate::bodies::{all_zero, check_record, counts_at, lay_in, used_kinds};
+use crate::bodies::{all_zero, check_record, counts_at, used_kinds};
+use copying::copy;
 use stock::{Refusal, blocks, check_stock, check_strip_only};
 
 // What is read before the moves: the counts and how many of them are used, the strip in the first of its bytes and how many they are.
@@ -94,7 +95,7 @@ pub fn opening_at(sheet: &[u8], at: usize) -> Opening
     let blocks = blocks(&counts[..kinds]);
     let first = at + 18;
     let end = first + 64;
-    lay_in(&sheet[first..end], &mut strip);
+    copy(&sheet[first..end], &mut strip);
     Opening {
         refusal,
         counts,

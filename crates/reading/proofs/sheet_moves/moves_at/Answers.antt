@@ -40,11 +40,11 @@ returns-then-last-ne0 c = refused_after _ _ _ _ _ (omega arith) (omega arith) _ 
 
 pub returns : goal.returns
 returns c =
-    read_on _ _ _ _ _ (omega arith) (omega arith) _ _ (ends (goal.at.returns c).After-follow_from-readout) (omega arith) (kept (goal.at.returns c).After-follow_from-readout) _ (c.lay_in.ensures ∙ ap (λ (l : List ℕ). l ++ drop (length l) c.args.buffer.now) (is (goal.at.returns c).After-follow_from-readout))
+    read_on _ _ _ _ _ (omega arith) (omega arith) _ _ (ends (goal.at.returns c).After-follow_from-readout) (omega arith) (kept (goal.at.returns c).After-follow_from-readout) _ (c.copy.ensures ∙ ap (λ (l : List ℕ). l ++ drop (length l) c.args.buffer.now) (is (goal.at.returns c).After-follow_from-readout))
 
-pub lay_in-requires : goal.lay_in-requires
-lay_in-requires c =
-    omega (arith, ap length (is (goal.at.lay_in-requires c).After-follow_from-readout), kept (goal.at.lay_in-requires c).After-follow_from-readout, strip_short c.args.opening c.requires (omega arith))
+pub copy-requires : goal.copy-requires
+copy-requires c =
+    omega (arith, ap length (is (goal.at.copy-requires c).After-follow_from-readout), kept (goal.at.copy-requires c).After-follow_from-readout, strip_short c.args.opening c.requires (omega arith))
 
 pub slice_bounds-counts-end : goal.slice_bounds-counts-end
 slice_bounds-counts-end c = c.requires.kinds
@@ -64,5 +64,5 @@ follow_from-readout-requires c = let p = c.requires in (p.stock (omega arith), p
 pub slice_bounds-strip-end-2 : goal.slice_bounds-strip-end-2
 slice_bounds-strip-end-2 c = fits (goal.at.slice_bounds-strip-end-2 c).After-follow_from-readout
 
-pub slice_bounds-lay_in-end : goal.slice_bounds-lay_in-end
-slice_bounds-lay_in-end c = sym (length-take-le _ _ (fits (goal.at.slice_bounds-lay_in-end c).After-follow_from-readout))
+pub slice_bounds-copy-end : goal.slice_bounds-copy-end
+slice_bounds-copy-end c = sym (length-take-le _ _ (fits (goal.at.slice_bounds-copy-end c).After-follow_from-readout))

@@ -1,20 +1,11 @@
--- `records::bodies::all_zero` meets its contract. The invariant: the bytes that are left decide.
-use mathlib.Core.Path.{refl, sym, ◌∙◌}
-use native.Mathlib.Omega.{arith}
-use Rattle.records.proofs.BodyLaws.{zeros_on, zeros_stop, zeros_end}
+-- `records::bodies::all_zero` meets its contract: each byte is compared with 0.
+use Rattle.std.proofs.Common.{eqb, rules, tests, ◌∙◌}
+use Rattle.std.proofs.lemmas.Iterator.{YieldsList-from_slice}
+use Rattle.std.proofs.lemmas.Iterator.Search.{all_from_yields_List}
+use Rattle.records.proofs.BodyLaws.{zeros_all}
 use Rattle.records.proofs.bodies.all_zero.Goals as goal
-
-pub returns-then-byte-ne0 : goal.returns-then-byte-ne0
-returns-then-byte-ne0 c =
-    sym (zeros_stop c.args.bytes.now c.loop-i.i (omega arith) (omega arith)) ∙ c.loop-i.invariant.1
-
-pub loop-i-preserved : goal.loop-i-preserved
-loop-i-preserved c =
-    (omega arith, sym (zeros_on c.args.bytes.now c.loop-i.i (omega arith) (omega arith)) ∙ c.loop-i.invariant.1)
 
 pub returns : goal.returns
 returns c =
-    sym (zeros_end c.args.bytes.now c.loop-i.i (omega arith)) ∙ c.loop-i.invariant.1
-
-pub loop-i-init : goal.loop-i-init
-loop-i-init c = (omega arith, refl)
+    let l = c.args.bytes.now in
+    all_from_yields_List (λ b. eqb b 0) _ _ _ c.all.ensures.ran (YieldsList-from_slice l cc) (λ x b q k. search (rules, tests)) ∙ zeros_all l

@@ -14,7 +14,7 @@ body c = let a = c.args in opening_body _ _ (passed (opening_nos a.at a.sheet.no
 
 pub returns : goal.returns
 returns c =
-    read_both _ _ _ c.check_opening-refusal.ensures (omega arith) _ c.counts_at-counts.ensures _ c.used_kinds-kinds.ensures _ c.blocks-blocks.ensures _ c.lay_in.ensures
+    read_both _ _ _ c.check_opening-refusal.ensures (omega arith) _ c.counts_at-counts.ensures _ c.used_kinds-kinds.ensures _ c.blocks-blocks.ensures _ c.copy.ensures
 
 pub returns-then-no-ne0 : goal.returns-then-no-ne0
 returns-then-no-ne0 c = read_none _ _ _ c.check_opening-refusal.ensures _ _ (omega arith)
@@ -37,5 +37,5 @@ overflow_add-first c = omega (arith, body (goal.at.overflow_add-first c).Else-no
 pub overflow_add-end : goal.overflow_add-end
 overflow_add-end c = omega (arith, body (goal.at.overflow_add-end c).Else-no-ne0)
 
-pub slice_bounds-lay_in-end : goal.slice_bounds-lay_in-end
-slice_bounds-lay_in-end c = omega (arith, body (goal.at.slice_bounds-lay_in-end c).Else-no-ne0)
+pub slice_bounds-copy-end : goal.slice_bounds-copy-end
+slice_bounds-copy-end c = omega (arith, body (goal.at.slice_bounds-copy-end c).Else-no-ne0)
