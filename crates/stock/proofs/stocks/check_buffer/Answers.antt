@@ -1,40 +1,28 @@
 -- `stock::stocks::check_buffer` meets its contract: the stock's refusals, then the length.
-use Prim.Native.Nat.{ℕ}
-use mathlib.Core.Path.{◌≡◌, ap}
-use mathlib.Core.List.{List, [], ◌∷◌}
+use mathlib.Core.Path.{◌≡◌, ap, ◌∙◌}
+use mathlib.Core.List.{[]}
 use native.Mathlib.Omega.{arith}
 use Rattle.rules.specs.Stock.{sum}
-use Rattle.rules.specs.Refusals.{No, fine, first_of, length_no, stock_nos, buffer_nos}
+use Rattle.rules.specs.Refusals.{fine, first_of, stock_nos, buffer_nos}
 use Rattle.rules.proofs.Checks.{accepted, length_wrong, length_right}
-use Rattle.stock.specs.Refused.{refusal}
-use Rattle.stock.proofs.Tested.{passed, stopped_first, passed_next}
+use Rattle.stock.specs.Refused.{no_of}
+use Rattle.stock.proofs.Told.{told_error, passed, stopped_first, passed_next}
 use Rattle.stock.proofs.stocks.check_buffer.Goals as goal
-use Rattle.stock.proofs.stocks.check_buffer.Goals.{After-blocks-n}
+use Rattle.stock.proofs.stocks.check_buffer.Goals.{After-blocks-2}
 
--- past the stock: it is accepted, so `blocks` gives n, and the length decides
-module _ (c : After-blocks-n) where
-  abbrev counts : List ℕ
-  counts = c.args.stock.now
+-- the stock is accepted, so `blocks` gives n
+blocks_n : (c : After-blocks-2) → c.blocks-2.result ≡ sum c.args.stock.now
+blocks_n c = omega (arith, c.blocks-2.ensures, (accepted _ (passed (stock_nos _) c.in_ok-check_stock.ensures)).short)
 
-  abbrev buffer : List ℕ
-  buffer = c.args.buffer.now
-
-  blocks_n : c.blocks-n.result ≡ sum counts
-  blocks_n = omega (arith, c.blocks-n.ensures, (accepted counts (passed (stock_nos counts) _ c.check_stock-checked.ensures (omega arith))).short)
-
-  next : (r : No) → r ≡ first_of (length_no counts buffer ∷ []) → refusal r ≡ refusal (first_of (buffer_nos counts buffer))
-  unfolding buffer_nos
-  next r e = passed_next (stock_nos counts) _ c.check_stock-checked.ensures _ (omega arith) _ (ap refusal e)
-
-pub returns-then-no-ne0 : goal.returns-then-no-ne0
+pub returns-in_err-check_stock : goal.returns-in_err-check_stock
 unfolding buffer_nos
-returns-then-no-ne0 c = stopped_first (stock_nos _) _ c.check_stock-checked.ensures _ (omega arith)
+returns-in_err-check_stock c = told_error _ _ c.from_residual.ensures.1 ∙ stopped_first (stock_nos _) _ c.in_err-check_stock.ensures _
 
-pub returns-then-buffer-n : goal.returns-then-buffer-n
-returns-then-buffer-n c =
-    next (goal.at.returns-then-buffer-n c).After-blocks-n _ (length_wrong (counts (goal.at.returns-then-buffer-n c).After-blocks-n) (buffer (goal.at.returns-then-buffer-n c).After-blocks-n) [] (omega (arith, blocks_n (goal.at.returns-then-buffer-n c).After-blocks-n)))
+pub returns-then-buffer-blocks : goal.returns-then-buffer-blocks
+unfolding buffer_nos
+returns-then-buffer-blocks c =
+    ap no_of c.at.ensures ∙ passed_next (stock_nos _) _ c.in_ok-check_stock.ensures _ (length_wrong _ _ [] (omega (arith, blocks_n (goal.at.returns-then-buffer-blocks c).After-blocks-2)))
 
 pub returns : goal.returns
-unfolding first_of
-returns c =
-    next (goal.at.returns c).After-blocks-n fine (length_right (counts (goal.at.returns c).After-blocks-n) (buffer (goal.at.returns c).After-blocks-n) [] (omega (arith, blocks_n (goal.at.returns c).After-blocks-n)))
+unfolding buffer_nos first_of
+returns c = passed_next (stock_nos _) _ c.in_ok-check_stock.ensures fine (length_right _ _ [] (omega (arith, blocks_n (goal.at.returns c).After-blocks-2)))

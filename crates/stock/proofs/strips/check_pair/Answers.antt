@@ -1,17 +1,17 @@
 -- `stock::strips::check_pair` meets its contract: the refusals of the stock and the first strip, then those of the second.
-use native.Mathlib.Omega.{arith}
+use mathlib.Core.Path.{◌∙◌}
 use Rattle.rules.specs.Refusals.{check_nos, pair_nos}
 use Rattle.rules.proofs.Checks.{accepted_both}
-use Rattle.stock.proofs.Tested.{passed, stopped_first, passed_next}
+use Rattle.stock.proofs.Told.{told_error, passed, stopped_first, passed_next}
 use Rattle.stock.proofs.strips.check_pair.Goals as goal
 
-pub returns-then-no-ne0 : goal.returns-then-no-ne0
+pub returns-in_err-check_strip : goal.returns-in_err-check_strip
 unfolding pair_nos
-returns-then-no-ne0 c = stopped_first (check_nos _ _) _ c.check_strip-checked.ensures _ (omega arith)
+returns-in_err-check_strip c = told_error _ _ c.from_residual.ensures.1 ∙ stopped_first (check_nos _ _) _ c.in_err-check_strip.ensures _
 
 pub check_strip_only-requires : goal.check_strip_only-requires
-check_strip_only-requires c = (accepted_both _ _ (passed (check_nos _ _) _ c.check_strip-checked.ensures (omega arith))).0
+check_strip_only-requires c = (accepted_both _ _ (passed (check_nos _ _) c.in_ok-check_strip.ensures)).0
 
 pub returns : goal.returns
 unfolding pair_nos
-returns c = passed_next (check_nos _ _) _ c.check_strip-checked.ensures _ (omega arith) _ c.check_strip_only.ensures
+returns c = passed_next (check_nos _ _) _ c.in_ok-check_strip.ensures _ c.check_strip_only.ensures
