@@ -1,12 +1,12 @@
 -- Proofs. How long the printed lines can be.
 use Prim.Native.Nat.{ℕ, suc, ◌*◌, ◌≤◌, ◌<◌}
-use mathlib.Core.List.{List, [], ◌∷◌, ◌++◌, map}
+use mathlib.Core.List.{List, [], ◌∷◌, map}
 use native.Mathlib.Omega.{arith}
 use lib.ListN.{length, get_or, length-append}
 use Rattle.rules.specs.Refusals.{No}
-use Rattle.lines.specs.Text.{feed, space, hyphen, decimal, preceded, joined, refused_line, strip_line}
+use Rattle.lines.specs.Text.{hyphen, decimal, preceded, joined, refused_line, strip_line}
 use Rattle.lines.proofs.Decimals.{decimal_short, decimal_kind}
-use Rattle.lines.proofs.Parts.{strip_parts, refused_parts}
+use Rattle.lines.proofs.Parts.{strip_room, refused_room}
 
 kinds_length : (s : List ℕ) → ((i : ℕ) → i < length s → get_or s i 0 < 100) → length (preceded hyphen (map decimal s)) ≤ 3 * length s
 unfolding preceded
@@ -22,13 +22,7 @@ joined_length (x ∷ s) h = omega (arith, kinds_length (x ∷ s) h)
 
 -- a strip of at most 64 blocks, of kinds of at most two digits
 pub strip_length : (number : ℕ) (s : List ℕ) → length s ≤ 64 → ((i : ℕ) → i < length s → get_or s i 0 < 100) → length (strip_line number s) ≤ 200
-strip_length number s n h =
-    let k = joined hyphen (map decimal s) in
-    rw (strip_parts number s)
-    (omega (arith, length-append (decimal number) (space ∷ (k ++ (feed ∷ []))), length-append k (feed ∷ []), decimal_short number, joined_length s h))
+strip_length number s n h = omega (arith, strip_room number s, decimal_short number, joined_length s h)
 
 pub refused_length : (r : No) → length (refused_line r) ≤ 200
-refused_length r =
-    let d = decimal r.1 ++ (feed ∷ []) in
-    rw (refused_parts r)
-    (omega (arith, length-append (decimal r.0) (space ∷ d), length-append (decimal r.1) (feed ∷ []), decimal_short r.0, decimal_short r.1))
+refused_length r = omega (arith, refused_room r, decimal_short r.0, decimal_short r.1)

@@ -2,6 +2,5 @@
 pub mod Decimals
 mod Putting
 mod Parts
-mod Written
 pub mod Lengths
 pub mod Theorems

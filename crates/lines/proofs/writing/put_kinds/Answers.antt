@@ -1,43 +1,60 @@
--- `lines::writing::put_kinds` meets its contract. The invariant: the kinds that are left, each with a hyphen before it, make the whole.
-use Prim.Native.Nat.{◌+◌}
-use mathlib.Core.List.{◌∷◌, ◌++◌}
+-- The first kind, then the others, each with a hyphen before it.
+use Prim.Native.Nat.{ℕ, ◌+◌, ◌<◌}
+use mathlib.Core.Path.{◌≡◌, ap, ◌∙◌}
+use mathlib.Core.List.{List, map}
 use native.Mathlib.Omega.{arith}
-use lib.ListN.{get_or}
-use Rattle.lines.specs.Text.{hyphen, decimal}
-use Rattle.lines.proofs.Putting.{Putting, start, fits, on, byte_fits, byte_on, whole}
-use Rattle.lines.proofs.Parts.{kinds_from, kinds_next, kinds_end}
-use Rattle.lines.proofs.Written.{first_fits, others_fit, all_kinds}
+use lib.ListN.{length, get_or, length-append}
+use Rattle.lines.specs.Text.{hyphen, decimal, joined}
+use Rattle.lines.proofs.Parts.{kinds_from, kinds_first, kinds_next, kinds_end, others_length, others_at}
+use Rattle.lines.proofs.Putting.{writes_none, writes_on}
 use Rattle.lines.proofs.writing.put_kinds.Goals as goal
-use Rattle.lines.proofs.writing.put_kinds.Goals.{In-loop-i}
+use Rattle.lines.proofs.writing.put_kinds.Goals.{In-loop-kind}
 
--- the next kind with its hyphen, and those after it
-next : (b : In-loop-i) → let s = b.args.strip.now in
-    Putting b.put_decimal-to.new.line b.put_decimal-to.result (kinds_from 1 s) b.loop-i.line b.loop-i.to (hyphen ∷ (decimal (get_or s b.loop-i.i 0) ++ kinds_from (b.loop-i.i + 1) s))
-next b = rw (kinds_next b.args.strip.now b.loop-i.i b.loop-i-test.true) at b.loop-i.invariant.2
+-- the room of all kinds is that of the first and of the others
+first_room : (s : List ℕ) → 0 < length s → length (joined hyphen (map decimal s)) ≡ length (decimal (get_or s 0 0)) + length (kinds_from 1 s)
+first_room s h = ap length (kinds_first s h) ∙ length-append (decimal (get_or s 0 0)) (kinds_from 1 s)
 
-pub put_decimal-to-requires : goal.put_decimal-to-requires
-put_decimal-to-requires c =
-    (omega (arith, c.type_inv.strip 0), first_fits c.args.line.now c.args.at c.args.strip.now c.requires.0 c.requires.1)
+-- and that of some others is that of a hyphen, the next kind and the others behind it
+next_room : (s : List ℕ) (i : ℕ) → i < length s → length (kinds_from i s) ≡ 1 + length (decimal (get_or s i 0)) + length (kinds_from (i + 1) s)
+next_room s i h = ap length (kinds_next s i h) ∙ omega (arith, length-append (decimal (get_or s i 0)) (kinds_from (i + 1) s))
 
-pub loop-i-init : goal.loop-i-init
-loop-i-init c =
-    (omega arith, omega (arith, c.requires.0), start _ _ _ (others_fit c.args.line.now c.args.at c.args.strip.now c.requires.0 c.requires.1 _ _ c.put_decimal-to.ensures))
+pub put_decimal-requires : goal.put_decimal-requires
+put_decimal-requires c = rw c.from.ensures (omega (arith, c.type_inv.strip 0), omega (arith, c.requires.1, first_room c.args.strip.now c.requires.0))
 
-pub put_byte-next-requires : goal.put_byte-next-requires
-put_byte-next-requires c = byte_fits (next (goal.at.put_byte-next-requires c).In-loop-i)
+pub loop-kind-init : goal.loop-kind-init
+loop-kind-init c =
+    let w = rw c.from.ensures at c.put_decimal.ensures in
+    let r = first_room c.args.strip.now c.requires.0 in
+    record {
+      room = omega (arith, w.kept, w.puts.0, r);
+      rest = λ after v. rw (kinds_first c.args.strip.now c.requires.0) (writes_on w v (omega (arith, r)));
+    }
 
-pub put_decimal-to-requires-in-loop-i : goal.put_decimal-to-requires-in-loop-i
-put_decimal-to-requires-in-loop-i c =
-    (omega (arith, c.type_inv.strip c.loop-i.i), fits (decimal _) _ (byte_on (next (goal.at.put_decimal-to-requires-in-loop-i c).In-loop-i) c.put_byte-next.ensures))
+-- there is a next kind
+inside : (c : In-loop-kind) → c.loop-kind.kind-index + 1 < length c.args.strip.now
+inside c = omega (arith, others_length c.args.strip.now)
 
-pub loop-i-preserved : goal.loop-i-preserved
-loop-i-preserved c = (
-  omega arith,
-  omega arith,
-  on (decimal _) _ (byte_on (next (goal.at.loop-i-preserved c).In-loop-i) c.put_byte-next.ensures) c.put_decimal-to-in-loop-i.ensures,
-)
+pub put_byte-requires : goal.put_byte-requires
+put_byte-requires c =
+    omega (arith, next_room c.args.strip.now (c.loop-kind.kind-index + 1) (inside (goal.at.put_byte-requires c).In-loop-kind))
+
+pub put_decimal-requires-in-loop-kind : goal.put_decimal-requires-in-loop-kind
+put_decimal-requires-in-loop-kind c =
+    let h = inside (goal.at.put_decimal-requires-in-loop-kind c).In-loop-kind in
+    rw (c.from-in-loop-kind.ensures, others_at c.args.strip.now c.loop-kind.kind-index (omega arith))
+    (omega (arith, c.type_inv.strip (c.loop-kind.kind-index + 1)), omega (arith, next_room c.args.strip.now (c.loop-kind.kind-index + 1) h))
+
+pub loop-kind-preserved : goal.loop-kind-preserved
+loop-kind-preserved c =
+    let h = inside (goal.at.loop-kind-preserved c).In-loop-kind in
+    let r = next_room c.args.strip.now (c.loop-kind.kind-index + 1) h in
+    let w = rw (c.from-in-loop-kind.ensures, others_at c.args.strip.now c.loop-kind.kind-index (omega arith)) at c.put_decimal-in-loop-kind.ensures in
+    record {
+      room = omega (arith, r, w.kept, w.puts.0);
+      rest = λ after v. c.loop-kind.invariant.rest after (rw (kinds_next c.args.strip.now (c.loop-kind.kind-index + 1) h) (writes_on c.put_byte.ensures (writes_on w v (omega (arith, r))) (omega (arith, r))));
+    }
 
 pub returns : goal.returns
 returns c =
-    all_kinds c.args.line.now c.args.at c.args.strip.now c.requires.0 c.requires.1 _ _ c.put_decimal-to.ensures _ _
-    (whole (rw (kinds_end c.args.strip.now c.loop-i.i c.loop-i-test.false) at c.loop-i.invariant.2))
+    c.loop-kind.invariant.rest c.loop-kind.line
+    (rw (kinds_end c.args.strip.now (c.loop-kind.kind-index + 1) (omega (arith, others_length c.args.strip.now))) (writes_none c.loop-kind.line))

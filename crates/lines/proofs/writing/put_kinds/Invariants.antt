@@ -1,12 +1,15 @@
--- `lines::writing::put_kinds` meets its contract. The invariant: the kinds that are left, each with a hyphen before it, make the whole.
-use Prim.Native.Nat.{◌≤◌, ◌-◌}
+-- The kinds that are left, each with a hyphen before it, have room, and once they are written all kinds are.
+use Prim.Native.Nat.{◌+◌, ◌≤◌}
+use mathlib.Core.List.{map}
 use lib.ListN.{length}
-use Rattle.lines.proofs.Putting.{Putting}
+use Rattle.lines.specs.Text.{hyphen, decimal, joined}
+use Rattle.lines.specs.declared.text.Line.{Line}
+use Rattle.lines.specs.Writing.{Writes}
 use Rattle.lines.proofs.Parts.{kinds_from}
 use Rattle.lines.proofs.writing.put_kinds.Given as goal
 
-abbrev pub invariant-loop-i : goal.invariant-loop-i
-invariant-loop-i l = (1 ≤ l.i) × (l.i ≤ length l.strip) × Putting l.initial.line l.initial.to (kinds_from 1 l.strip) l.line l.to (kinds_from l.i l.strip)
-
-abbrev pub decreases-loop-i : goal.decreases-loop-i
-decreases-loop-i l = length l.strip - l.i
+abbrev pub invariant-loop-kind : goal.invariant-loop-kind
+invariant-loop-kind l = record {
+  room : l.line.end + length (kinds_from (l.kind-index + 1) l.fn.strip) ≤ length l.line.bytes.now;
+  rest : (after : Line) → Writes l.line (kinds_from (l.kind-index + 1) l.fn.strip) after → Writes l.fn.line (joined hyphen (map decimal l.fn.strip)) after;
+}
