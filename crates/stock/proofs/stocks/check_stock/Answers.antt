@@ -12,9 +12,9 @@ use Rattle.stock.specs.Refused.{no_of}
 use Rattle.stock.proofs.stocks.check_stock.Goals as goal
 
 -- no kinds, or more than 16
-wrong_kinds : (counts : List ℕ) → (length counts ≡ 0) ⊎ (16 < length counts) → (1, 0) ≡ first_of (stock_nos counts)
+wrong_kinds : (counts : List ℕ) → (length counts ≡ 0) ⊎ ((length counts ≡ 0 → ⊥) × (16 < length counts)) → (1, 0) ≡ first_of (stock_nos counts)
 wrong_kinds counts (inl h) = stock_empty counts h
-wrong_kinds counts (inr h) = stock_over counts h
+wrong_kinds counts (inr h) = stock_over counts h.1
 
 pub returns-then-kinds-eq0 : goal.returns-then-kinds-eq0
 returns-then-kinds-eq0 c = ap no_of c.at.ensures ∙ wrong_kinds _ c.then-kinds-eq0.either
