@@ -8,6 +8,7 @@ use native.Mathlib.Numerals.{add-one, sub-one}
 use native.Mathlib.Omega.{arith}
 use lib.Dec.{eqb}
 use lib.ListN.{length, get_or, drop}
+use Rattle.std.proofs.Common.{Option}
 use Rattle.rules.specs.Book.{K, R, odd, letter, pattern}
 use Rattle.rules.proofs.Runs.{run, pattern_at, pattern_end}
 use Rattle.rules.proofs.Moves.{gate}
@@ -16,7 +17,7 @@ use Rattle.rules.proofs.Left.{ahead, near, far}
 use Rattle.moves.specs.declared.Step.{Step}
 use Rattle.moves.specs.Steps.{step}
 
-abbrev at : ℕ → ℕ → Step
+abbrev at : ℕ → ℕ → Option Step
 at low high = step (some (low, high))
 
 -- ---- ahead
@@ -45,7 +46,7 @@ module _ (j : ℕ) (s : List ℕ) (i : ℕ) where
 -- ---- near and far: by the number n of others, two places if it is odd and two if it is even
 
 module _ (n : ℕ) (odds evens : ℕ × ℕ) where
-  abbrev by_parity : Step
+  abbrev by_parity : Option Step
   by_parity = step (gate n (cond (odd n) odds evens))
 
   gate_none : n ≡ 0 → step none ≡ by_parity

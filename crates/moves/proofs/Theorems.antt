@@ -2,13 +2,14 @@
 use Prim.Native.Nat.{ℕ}
 use mathlib.Core.Path.{◌≡◌, refl, ◌∙◌}
 use mathlib.Core.Bool.{Bool, true, false}
-use mathlib.Core.Option.{Option, none, some}
+use mathlib.Core.Option as maybe
+use mathlib.Core.Option.{none, some}
 use mathlib.Core.List.{List, []}
-use native.Mathlib.Omega.{arith}
 use lib.ListN.{length, get_or}
 use contract.Lifetimes.{Lfts}
 use borrow.Fn.Kinds.{Dens, ended_of}
 use denote.Triple.Clauses.{AtExit}
+use Rattle.std.proofs.Common.{Option, Some, None}
 use Rattle.rules.specs.Book.{Word, E, lay, pattern}
 use Rattle.rules.proofs.Patterns.{IsWord, listed_e}
 use Rattle.rules.proofs.Exchange.{Exchanged, exchanged}
@@ -41,10 +42,10 @@ pub record NextBlocks (d : Bool) (kind : ℕ) (word : List ℕ) (low high : ℕ)
   pub there : get_or (patterns_of kind word) (index kind to) [] ≡ pattern kind to
   pub onward : Onward d (index kind word) (index kind to)
 
--- what an answer must be: where found, its two places are that exchange; where not, the pattern is at the end of its list
-pub record Right (d : Bool) (kind : ℕ) (word : List ℕ) (r : Step) : Type 0 where
-  pub found : r.found ≡ true → NextBlocks d kind word r.low r.high
-  pub at_end : r.found ≡ false → Final d (length (patterns_of kind word)) (index kind word)
+-- what an answer must be: its two places are that exchange, or there are none and the pattern is at the end of its list
+pub record Right (d : Bool) (kind : ℕ) (word : List ℕ) (r : Option Step) : Type 0 where
+  pub found : (m : Step) → r ≡ Some m → NextBlocks d kind word m.low m.high
+  pub at_end : r ≡ None → Final d (length (patterns_of kind word)) (index kind word)
 
 module _ (d : Bool) (kind : ℕ) (word : List ℕ) where
   abbrev a : ℕ
@@ -85,23 +86,23 @@ module _ (d : Bool) (kind : ℕ) (word : List ℕ) where
     }
 
   -- an answer is right: it names the exchange that makes the next word, or the word is the last
-  right : (o : Option (ℕ × ℕ)) (r : Step) → r ≡ step o → ResultE d a b (pattern kind word) o → Right d kind word r
+  right : (o : maybe.Option (ℕ × ℕ)) (r : Option Step) → r ≡ step o → ResultE d a b (pattern kind word) o → Right d kind word r
   unfolding index
   right none r e m = record {
-    found = λ f. let z : ◌≡◌ {A = ℕ} 0 1 = cc in absurd (omega arith);
+    found = λ s f. absurd (cc (e, f));
     at_end = λ f. rw (listed_e a b).size m;
   }
   right (some pq) r e m = record {
-    found = λ f. rw e (next_blocks pq.0 pq.1 m);
-    at_end = λ f. let z : ◌≡◌ {A = ℕ} 0 1 = cc in absurd (omega arith);
+    found = λ s f. let g : record { low = pq.0; high = pq.1 } ≡ s = cc (e, f) in rw (← g) (next_blocks pq.0 pq.1 m);
+    at_end = λ f. absurd (cc (e, f));
   }
 
-  pub move_right : (r : Step) → r ≡ step_of d kind word → Right d kind word r
+  pub move_right : (r : Option Step) → r ≡ step_of d kind word → Right d kind word r
   move_right r e = right (move_e d (pattern kind word)) r e (e_move a b (pattern kind word) is_word d)
 
 -- any answer that the contracts allow
-pub next_right : (κs : Lfts 1) (args : Dens κs next.ps) (r : Step) (s : AtExit (ended_of 1 next.ps next.r) κs) → next_reads.Post κs args r s → Right false args.1.0 args.0.now r
+pub next_right : (κs : Lfts 1) (args : Dens κs next.ps) (r : Option Step) (s : AtExit (ended_of 1 next.ps next.r) κs) → next_reads.Post κs args r s → Right false args.1.0 args.0.now r
 next_right κs args r s h = move_right false args.1.0 args.0.now r h
 
-pub prev_right : (κs : Lfts 1) (args : Dens κs prev.ps) (r : Step) (s : AtExit (ended_of 1 prev.ps prev.r) κs) → prev_reads.Post κs args r s → Right true args.1.0 args.0.now r
+pub prev_right : (κs : Lfts 1) (args : Dens κs prev.ps) (r : Option Step) (s : AtExit (ended_of 1 prev.ps prev.r) κs) → prev_reads.Post κs args r s → Right true args.1.0 args.0.now r
 prev_right κs args r s h = move_right true args.1.0 args.0.now r h

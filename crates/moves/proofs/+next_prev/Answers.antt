@@ -25,7 +25,7 @@ next-next-inner-requires t c =
 pub next-returns-then-word-last : goal.next-returns-then-word-last
 next-returns-then-word-last t c =
     let b = both c.requires.1 c.if-others-eq0.false c.if-a-others.false in
-    c.or_else.ensures ∙ next_k b (omega arith) (omega arith) (omega arith) c.next-inner.ensures
+    c.or.ensures ∙ next_k b (omega arith) (omega arith) (omega arith) c.next-inner.ensures
 
 pub next-returns-then-rest-eq0 : goal.next-returns-then-rest-eq0
 next-returns-then-rest-eq0 t c =
@@ -40,7 +40,7 @@ next-prev-inner-requires t c =
 pub next-returns-then-word-before : goal.next-returns-then-word-before
 next-returns-then-word-before t c =
     let b = both c.requires.1 c.if-others-eq0.false c.if-a-others.false in
-    c.or_else-then-word-before.ensures ∙ next_kr b (omega arith) (omega arith) (omega arith) (omega arith) (omega arith) c.prev-inner.ensures
+    c.or-then-word-before.ensures ∙ next_kr b (omega arith) (omega arith) (omega arith) (omega arith) (omega arith) c.prev-inner.ensures
 
 pub next-overflow_sub-rest-2 : goal.next-overflow_sub-rest-2
 next-overflow_sub-rest-2 t c =
@@ -82,7 +82,7 @@ prev-next-inner-requires t c =
 pub prev-returns-then-word-before : goal.prev-returns-then-word-before
 prev-returns-then-word-before t c =
     let b = both c.requires.1 c.if-others-eq0.false c.if-a-others.false in
-    c.or_else.ensures ∙ prev_kr b (omega arith) (omega arith) (omega arith) (omega arith) c.next-inner.ensures
+    c.or.ensures ∙ prev_kr b (omega arith) (omega arith) (omega arith) (omega arith) c.next-inner.ensures
 
 pub prev-overflow_sub-fewer : goal.prev-overflow_sub-fewer
 prev-overflow_sub-fewer t c =
@@ -97,4 +97,4 @@ prev-prev-inner-requires t c =
 pub prev-returns : goal.prev-returns
 prev-returns t c =
     let b = both c.requires.1 c.if-others-eq0.false c.if-a-others.false in
-    c.or_else-2.ensures ∙ prev_rr b (omega arith) (omega arith) (omega arith) (omega arith) c.prev-inner.ensures
+    c.or-2.ensures ∙ prev_rr b (omega arith) (omega arith) (omega arith) (omega arith) c.prev-inner.ensures
