@@ -83,3 +83,6 @@ module _ (y j u : ℕ) where
   pub far_even : (u ≡ 0 → ⊥) → odd u ≡ false → at y j ≡ step (far y j u)
   unfolding far
   far_even = gate_even u (pred y, pred j) (y, j)
+
+-- the laws of the three, for the functions that go by cases
+pub ruleset by_cases = (ahead_none, ahead_odd, ahead_even, near_none, near_odd, near_even, far_none, far_odd, far_even)

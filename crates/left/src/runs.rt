@@ -8,17 +8,15 @@ pub fn run_end(word: &[u8], kind: u8, own: bool, from: usize) -> usize
     requires { from ≤ length word.now }
     ensures { (result ≡ from + run (letter own) (drop from (pattern kind word.now))) × (result ≤ length word.now) }
 {
-    let mut i = from;
-    while i < word.len() {
-        let hit = word[i] == kind;
-        if hit != own {
+    for i in from..word.len() {
+        if (word[i] == kind) != own {
             return i;
         }
-        i += 1;
     }
-    i
+    word.len()
 }
 
+#[tactic(auto, using(rules::proofs::Numbers::odd_rest))]
 pub fn is_odd(n: usize) -> bool
     ensures { result ≡ odd n }
 {

@@ -11,6 +11,7 @@ use moves::Step;
 
 // Moving on at place j, where a run of others ends and a block of the kind stands, if the word goes on. Whether the others behind that block are odd in
 // number decides; where one more of the kind follows there are none, and no more of the word is read.
+#[tactic(auto, using(crate::proofs::ByCases::by_cases))]
 fn step_ahead(word: &[u8], kind: u8, j: usize) -> Option<Step>
     requires { (j ≤ length word.now) × (j < length word.now → 0 < j) × (run R (drop j (pattern kind word.now)) ≡ 0) }
     ensures { result ≡ step (ahead j (drop j (pattern kind word.now))) }
@@ -33,6 +34,7 @@ fn step_ahead(word: &[u8], kind: u8, j: usize) -> Option<Step>
 }
 
 // Moving back at a run of others, with a run of the kind before it that begins the word.
+#[tactic(auto, using(crate::proofs::ByCases::by_cases))]
 fn step_near(kinds: usize, others: usize) -> Option<Step>
     requires { 0 < kinds }
     ensures { result ≡ step (near kinds others) }
@@ -53,6 +55,7 @@ fn step_near(kinds: usize, others: usize) -> Option<Step>
 }
 
 // Moving back at a run of others that begins at place j, in a word that begins with so many others as `first` says.
+#[tactic(auto, using(crate::proofs::ByCases::by_cases))]
 fn step_far(first: usize, j: usize, others: usize) -> Option<Step>
     requires { (others ≡ 0 → ⊥) → (0 < first) × (0 < j) }
     ensures { result ≡ step (far first j others) }
