@@ -1,7 +1,6 @@
 -- What flags say of the strips of a book. No open call's contract cites it, so nothing here is to be believed.
-use Rattle.std.specs.Prelude.{ℕ, ◌<◌, ◌≡◌, Bool, false, not, List, [], ◌∷◌, length, get_or}
-use Rattle.rules.specs.Stock.{tally}
-use Rattle.rules.specs.Book.{ahead}
+use Rattle.std.specs.Prelude.{ℕ, ◌<◌, ◌≡◌, Bool, false, not, List, [], length, get_or, count_by}
+use Rattle.std.specs.List.{position_or_len}
 use Rattle.searching.specs.Searching.{is_among}
 
 -- all flags are clear
@@ -14,11 +13,9 @@ pub record Flagged (book l : List (List ℕ)) (flags : List Bool) : Type 0 where
   pub each : (k : ℕ) → k < length book → get_or flags k false ≡ is_among l (get_or book k [])
 
 -- how many flags are set
-unfoldable pub how_many_set : List Bool → ℕ
-how_many_set [] = 0
-how_many_set (b ∷ flags) = tally b (how_many_set flags)
+abbrev pub how_many_set : List Bool → ℕ
+how_many_set flags = count_by (λ set. set) flags
 
 -- how many flags stand ahead of the first that is clear; all where none is
-unfoldable pub first_clear_place : List Bool → ℕ
-first_clear_place [] = 0
-first_clear_place (b ∷ flags) = ahead (not b) (first_clear_place flags)
+abbrev pub first_clear_place : List Bool → ℕ
+first_clear_place flags = position_or_len (λ set. not set) flags
