@@ -12,10 +12,12 @@ at_most_more x y [] h l = tt
 at_most_more x y (z ∷ s) h l = (omega (arith, h.0), at_most_more x y s h.1 l)
 
 -- the last block alone falls
-pub falls_one : (s : List ℕ) → 0 < length s → Falls (drop (length s - 1) s)
-falls_one s h =
-    let e : suc (length s - 1) ≡ length s = omega arith in
-    let d : drop (length s - 1) s ≡ get_or s (length s - 1) 0 ∷ [] = drop-cons s (length s - 1) 0 (omega arith) ∙ rw (e, drop-length s) in
+pub falls_one : (s : List ℕ) → Falls (drop (length s - 1) s)
+falls_one [] = tt
+falls_one (x ∷ s) =
+    let t = x ∷ s in
+    let e : suc (length t - 1) ≡ length t = omega arith in
+    let d : drop (length t - 1) t ≡ get_or t (length t - 1) 0 ∷ [] = drop-cons t (length t - 1) 0 (omega arith) ∙ rw (e, drop-length t) in
     rw d (tt, tt)
 
 pub falls_more : (s : List ℕ) (i : ℕ) → suc i < length s → Falls (drop (suc i) s) → get_or s (suc i) 0 ≤ get_or s i 0 → Falls (drop i s)
@@ -25,16 +27,3 @@ falls_more s i h f l =
     go : drop (suc i) s ≡ get_or s (suc i) 0 ∷ drop (suc (suc i)) s → Falls (drop (suc i) s) → AtMost (get_or s i 0) (drop (suc i) s) × Falls (drop (suc i) s)
     go e f = let g : Falls (get_or s (suc i) 0 ∷ drop (suc (suc i)) s) = rw e at f in
         (rw e (l, at_most_more (get_or s (suc i) 0) (get_or s i 0) (drop (suc (suc i)) s) g.0 l), f)
-
-pub none_after : (x : ℕ) (s : List ℕ) → 0 < length s → AtMost x (drop (suc (length s - 1)) s)
-none_after x s h =
-    let e : suc (length s - 1) ≡ length s = omega arith in
-    rw (e, drop-length s) tt
-
-pub at_most_step : (x : ℕ) (s : List ℕ) (j : ℕ) → j < length s → AtMost x (drop (suc j) s) → get_or s j 0 ≤ x → AtMost x (drop j s)
-at_most_step x s j h a l = rw (drop-cons s j 0 h) (l, a)
-
-pub at_most_back : (x : ℕ) (s : List ℕ) (j : ℕ) → 0 < j → j < length s → AtMost x (drop (suc j) s) → get_or s j 0 ≤ x → AtMost x (drop (suc (j - 1)) s)
-at_most_back x s j p h a l =
-    let e : suc (j - 1) ≡ j = omega arith in
-    rw e (at_most_step x s j h a l)

@@ -1,31 +1,28 @@
 // Looking at a strip from its end.
-ghost use Rattle.std.specs.Prelude.{suc, ◌-◌, ◌≤◌, ◌<◌, length, get_or, drop};
+ghost use Rattle.std.specs.Prelude.{suc, ◌≤◌, ◌<◌, length, get_or, drop, MatchOption};
 ghost use Rattle.dictionary.proofs.Following.{AtMost, Falls};
 
-// Where the longest tail starts that has no block higher than one before it.
-pub fn falling_from(strip: &[u8]) -> usize
-    requires { 0 < length strip.now }
-    ensures { (result < length strip.now) × Falls (drop result strip.now) × (0 < result → get_or strip.now (result - 1) 0 < get_or strip.now result 0) }
+// The last place whose block is lower than the one behind it, so that the blocks behind it fall; none where all blocks fall.
+pub fn last_rise(strip: &[u8]) -> Option<usize>
+    ensures { MatchOption result (Falls strip.now) (λ at. (suc at < length strip.now) × (get_or strip.now at 0 < get_or strip.now (suc at) 0) × Falls (drop (suc at) strip.now)) }
 {
-    let mut i = strip.len() - 1;
-    while 0 < i {
-        let before = i - 1;
-        if strip[before] < strip[i] {
-            return i;
+    for behind in (1..strip.len()).rev() {
+        if strip[behind - 1] < strip[behind] {
+            return Some(behind - 1);
         }
-        i = before;
     }
-    0
+    None
 }
 
-// The last block from a place on that is higher than a kind, where the one at that place is.
+// The last block from a place on that is higher than a kind, where the one at that place is higher.
 pub fn last_above(strip: &[u8], from: usize, kind: u8) -> usize
     requires { (from < length strip.now) × (kind < get_or strip.now from 0) }
     ensures { (from ≤ result) × (result < length strip.now) × (kind < get_or strip.now result 0) × AtMost kind (drop (suc result) strip.now) }
 {
-    let mut j = strip.len() - 1;
-    while strip[j] <= kind {
-        j -= 1;
+    for place in (from + 1..strip.len()).rev() {
+        if kind < strip[place] {
+            return place;
+        }
     }
-    j
+    from
 }

@@ -3,6 +3,5 @@
 
 mod ends;
 mod step;
-mod tail;
 
 pub use step::next_entry;

@@ -1,11 +1,8 @@
--- `succession::ends::last_above` meets its contract. The invariant: no block behind j is higher.
-use Prim.Native.Nat.{suc, ◌≤◌, ◌<◌}
-use lib.ListN.{length, drop}
+-- `succession::ends::last_above` meets its contract. The invariant: no block that was looked at is higher.
+use Prim.Native.Nat.{◌<◌}
+use lib.ListN.{drop}
 use Rattle.dictionary.proofs.Following.{AtMost}
 use Rattle.succession.proofs.ends.last_above.Given as goal
 
-abbrev pub invariant-loop-j : goal.invariant-loop-j
-invariant-loop-j l = (l.from ≤ l.j) × (l.j < length l.strip) × AtMost l.kind (drop (suc l.j) l.strip)
-
-abbrev pub decreases-loop-j : goal.decreases-loop-j
-decreases-loop-j l = l.j
+abbrev pub invariant-loop-place : goal.invariant-loop-place
+invariant-loop-place l = (l.from < l.place) × AtMost l.kind (drop l.place l.strip)
