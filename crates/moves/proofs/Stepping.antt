@@ -5,13 +5,14 @@ use mathlib.Core.Bool.{true, false}
 use mathlib.Core.Option as maybe
 use mathlib.Core.Option.{none, some}
 use mathlib.Core.List.{List}
+use native.Mathlib.Omega.{arith}
 use lib.ListN.{length, get_or, take}
 use Rattle.std.proofs.Common.{Option, Some}
 use Rattle.std.specs.Option.{option_or}
 use Rattle.rules.specs.Book.{pattern}
 use Rattle.rules.proofs.Moves.{or_else, or_else_none, move_e}
-use Rattle.rules.proofs.Index.{rests}
-use Rattle.rules.proofs.Endings.{Both, gate_open, move_no_rest, rest_kr, move_k, move_kr, move_rr}
+use Rattle.rules.proofs.Index.{rests, rests_le}
+use Rattle.rules.proofs.Endings.{Both, gate_open, move_no_rest, move_all_rest, rest_k, rest_kr, rest_rr, more_rr, move_k, move_kr, move_rr}
 use Rattle.moves.specs.declared.Step.{Step}
 use Rattle.moves.specs.Steps.{step, step_of}
 
@@ -58,3 +59,10 @@ module _ {j : ℕ} {w : List ℕ} {b : ℕ} (h : Both j w b) where
 
       pub prev_rr : {s : Option Step} {low high : ℕ} → low ≡ b - 1 - 1 → high ≡ length w - 2 → s ≡ step_of true j (less 2 w) → option_or s (Some (record { low = low; high = high })) ≡ step_of true j w
       prev_rr = seam_at (move_e true (pattern j (less 2 w))) (move_e true (pattern j w)) (b - 1 - 1) (length w - 2) (move_rr h r k true)
+
+-- past the first two tests the word has letters of both sorts
+pub both : {j b : ℕ} {w : List ℕ} → b ≡ rests j w → (b ≡ 0 → ⊥) → b < length w → Both j w b
+both is r k = record { is = is; some_r = omega arith; some_k = k }
+
+-- the laws that prove most goals of `next` and `prev`
+pub ruleset stepping = (both, move_no_rest, move_all_rest, rests_le, more_rr, prev_k, next_kr, next_kr_none, next_rr, prev_rr)

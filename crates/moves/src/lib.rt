@@ -16,6 +16,7 @@ pub struct Step {
 // first, then those that end in K R, in reverse order, then those that end in R R: across the reversed part, moving on is moving back in the shorter word. One
 // pass over the word, at most 64 deep.
 #[cycle(next_prev)]
+#[tactic(auto, using(crate::proofs::Stepping::stepping))]
 pub fn next(word: &[u8], kind: u8, others: usize) -> Option<Step>
     requires { (length word.now ≤ 64) × (others ≡ rests kind word.now) }
     ensures { result ≡ step_of false kind word.now }
@@ -52,6 +53,7 @@ pub fn next(word: &[u8], kind: u8, others: usize) -> Option<Step>
 
 // Moving back: by the same three parts, from the last to the first.
 #[cycle(next_prev)]
+#[tactic(auto, using(crate::proofs::Stepping::stepping))]
 pub fn prev(word: &[u8], kind: u8, others: usize) -> Option<Step>
     requires { (length word.now ≤ 64) × (others ≡ rests kind word.now) }
     ensures { result ≡ step_of true kind word.now }
