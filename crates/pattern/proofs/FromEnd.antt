@@ -1,18 +1,19 @@
--- Proofs. The parity of an index while the word is read from its end: a letters and b letters R are left.
+-- Proofs. The parity of an index while the word is read from its end: a word v is left with b letters R.
 use Prim.Native.Nat.{ℕ, suc, ◌+◌, ◌-◌, ◌≤◌, ◌<◌}
 use mathlib.Core.Path.{◌≡◌, refl, sym, ap, ◌∙◌}
 use mathlib.Core.Bool.{Bool, true, false, not, beq}
-use mathlib.Core.List.{List}
+use mathlib.Core.List.{List, ◌∷◌, reverse}
 use native.Mathlib.Omega.{arith}
+use borrow.Author.Tests.{eq-eqb, ne_eqb}
 use lib.ListN.{length, get_or, take}
-use lib.Seq.{take_all, length-take-le}
+use lib.Seq.{length-take-le}
 use Rattle.rules.specs.Stock.{binom}
-use Rattle.rules.specs.Book.{odd}
+use Rattle.rules.specs.Book.{R, Word, pattern, odd}
 use Rattle.rules.proofs.Listed.{face, flip, flip_not, flip_false, flip_flip, differs}
 use Rattle.rules.proofs.Patterns.{count_r, rank, listed_l, binom_self, rank_k, rank_r}
 use Rattle.rules.proofs.Numbers.{odd_add}
-use Rattle.rules.proofs.Index.{index, rests, rests_le, rests_turned}
-use Rattle.rules.proofs.LettersLeft.{letters_left, left_whole, left_long, left_k, left_r}
+use Rattle.rules.proofs.Last.{rev_one}
+use Rattle.rules.proofs.Index.{index, rests, rests_le, rests_k, rests_turned, index_turned, length_turned}
 
 -- ---- parities
 
@@ -44,78 +45,78 @@ odd_back n i h =
 
 -- ---- the loop
 
-pub record FromEnd (j : ℕ) (w : List ℕ) (a b : ℕ) (turned so_far : Bool) : Type 0 where
-  pub left : a ≤ length w
-  pub rest : b ≡ rests j (take a w)
-  pub parity : odd (index j w) ≡ flip so_far (odd (rank turned (letters_left j w a)))
+pub record FromEnd (j : ℕ) (w v : List ℕ) (b : ℕ) (turned so_far : Bool) : Type 0 where
+  pub rest : b ≡ rests j v
+  pub parity : odd (index j w) ≡ flip so_far (odd (rank turned (pattern j (reverse v))))
 
-pub start : (j : ℕ) (w : List ℕ) (b : ℕ) → b ≡ rests j w → FromEnd j w (length w) b false false
-start j w b h = record { left = omega arith; rest = rw (take_all (length w) w (omega arith)) h; parity = ap odd (left_whole j w) }
+pub start : {j : ℕ} {w : List ℕ} {b : ℕ} → b ≡ rests j w → FromEnd j w w b false false
+start {j} {w} is = record { rest = is; parity = ap odd (index_turned j w) }
 
-module _ {j : ℕ} {w : List ℕ} {a b : ℕ} {turned so_far : Bool} (s : FromEnd j w (suc a) b turned so_far) where
-  counted : b ≡ count_r (letters_left j w (suc a))
-  counted = s.rest ∙ rests_turned j (take (suc a) w)
+module _ {j : ℕ} {w v : List ℕ} {b : ℕ} {turned so_far : Bool} (s : FromEnd j w v b turned so_far) where
+  pub fewer : b ≤ length v
+  fewer = omega (arith, s.rest, rests_le j v)
 
-  module _ (k : get_or w a 0 ≡ j) where
-    same_rest : b ≡ count_r (letters_left j w a)
-    same_rest = counted ∙ ap count_r (left_k j w a (omega (arith, s.left)) k)
+  module _ (some : 0 < length v) where
+    abbrev a : ℕ
+    a = length v - 1
 
-    parity_k : odd (index j w) ≡ flip so_far (odd (face turned (binom a b) (rank false (letters_left j w a))))
-    parity_k = s.parity ∙ ap (λ (n : ℕ). flip so_far (odd n)) (ap (rank turned) (left_k j w a (omega (arith, s.left)) k) ∙ rank_k turned a b (letters_left j w a) (left_long j w a (omega (arith, s.left)), sym same_rest))
+    -- what is left without its last letter, and its letters from the last
+    abbrev u : List ℕ
+    u = take a v
 
-    rest_k : b ≡ rests j (take a w)
-    rest_k = same_rest ∙ sym (rests_turned j (take a w))
+    abbrev p : Word
+    p = pattern j (reverse u)
 
-    below_k : rank false (letters_left j w a) < binom a b
-    below_k = (listed_l false a b).below (letters_left j w a) (left_long j w a (omega (arith, s.left)), sym same_rest)
+    pub shorter : length u ≡ a
+    shorter = length-take-le a v (omega arith)
 
-  module _ (k : get_or w a 0 ≡ j → ⊥) where
-    one_less : b ≡ suc (count_r (letters_left j w a))
-    one_less = counted ∙ ap count_r (left_r j w a (omega (arith, s.left)) k)
+    long : length p ≡ a
+    long = length_turned j u ∙ shorter
 
-    parity_r : odd (index j w) ≡ flip so_far (flip (odd (binom a b)) (odd (rank (not turned) (letters_left j w a))))
-    parity_r =
-        let p = letters_left j w a in
-        let e : rank turned (letters_left j w (suc a)) ≡ binom a b + rank (not turned) p =
-        ap (rank turned) (left_r j w a (omega (arith, s.left)) k) ∙ rank_r turned a (count_r p) p (left_long j w a (omega (arith, s.left)), refl) ∙ rw (← one_less) in
-        s.parity ∙ ap (λ (n : ℕ). flip so_far (odd n)) e ∙ ap (flip so_far) (odd_add (binom a b) (rank (not turned) p))
+    module _ (k : get_or v a 0 ≡ j) where
+      rest_k : b ≡ rests j u
+      rest_k = s.rest ∙ sym (rests_k j v some k)
 
-    rest_r : b - 1 ≡ rests j (take a w)
-    rest_r = omega (arith, one_less, rests_turned j (take a w))
+      counted : count_r p ≡ b
+      counted = sym (rest_k ∙ rests_turned j u)
 
--- ---- the same in the terms of the loop, which has taken 1 from a, and odd-in-k says whether C(a - 1, b) is odd
+      parity_k : odd (index j w) ≡ flip so_far (odd (face turned (binom a b) (rank false p)))
+      unfolding pattern
+      parity_k = (rw (rev_one v some, eq-eqb _ j k) at s.parity) ∙ ap (λ (n : ℕ). flip so_far (odd n)) (rank_k turned a b p (long, counted))
 
-module _ {j : ℕ} {w : List ℕ} {a b : ℕ} {turned so_far : Bool} (s : FromEnd j w a b turned so_far) (h : b < a) where
-  e : a ≡ suc (a - 1)
-  e = omega arith
+      below_k : rank false p < binom a b
+      below_k = (listed_l false a b).below p (long, counted)
 
-  pub on_k : get_or w (a - 1) 0 ≡ j → turned ≡ false → FromEnd j w (a - 1) b turned so_far
-  unfolding face
-  on_k k t = rw t (record { left = omega (arith, s.left); rest = rest_k (rw e at s) k; parity = rw t at (parity_k (rw e at s) k) })
+      pub on_k : turned ≡ false → FromEnd j w u b turned so_far
+      unfolding face
+      on_k t = rw t (record { rest = rest_k; parity = rw t at parity_k })
 
-  pub on_turned : get_or w (a - 1) 0 ≡ j → turned ≡ true → {odd_in_k : Bool} → odd_in_k ≡ odd (binom (a - 1) b) → FromEnd j w (a - 1) b false (beq so_far odd_in_k)
-  unfolding face
-  on_turned k t is = record {
-    left = omega (arith, s.left);
-    rest = rest_k (rw e at s) k;
-    parity = rw is ((rw t at (parity_k (rw e at s) k)) ∙ ap (flip so_far) (odd_back (binom (a - 1) b) _ (below_k (rw e at s) k)) ∙ alike so_far (odd (binom (a - 1) b)) _);
-  }
+      pub on_turned : turned ≡ true → {odd_in_k : Bool} → odd_in_k ≡ odd (binom (length u) b) → FromEnd j w u b false (beq so_far odd_in_k)
+      unfolding face
+      on_turned t is = record { rest = rest_k; parity = rw (is, shorter) ((rw t at parity_k) ∙ ap (flip so_far) (odd_back (binom a b) _ below_k) ∙ alike so_far (odd (binom a b)) _) }
 
-  pub on_r : (get_or w (a - 1) 0 ≡ j → ⊥) → {odd_in_k : Bool} → odd_in_k ≡ odd (binom (a - 1) b) → FromEnd j w (a - 1) (b - 1) (not turned) (not (beq so_far odd_in_k))
-  on_r k is = record {
-    left = omega (arith, s.left);
-    rest = rest_r (rw e at s) k;
-    parity = rw is (parity_r (rw e at s) k ∙ unlike so_far (odd (binom (a - 1) b)) _);
-  }
+    module _ (k : get_or v a 0 ≡ j → ⊥) where
+      one_less : b ≡ suc (count_r p)
+      unfolding pattern
+      one_less = s.rest ∙ (rw (rev_one v some, ne_eqb _ j k) at (rests_turned j v))
 
-  pub some_r : (get_or w (a - 1) 0 ≡ j → ⊥) → 0 < b
-  some_r k = omega (arith, one_less (rw e at s) k)
+      parity_r : odd (index j w) ≡ flip so_far (flip (odd (binom a b)) (odd (rank (not turned) p)))
+      unfolding pattern
+      parity_r =
+          let e : rank turned (R ∷ p) ≡ binom a b + rank (not turned) p = rank_r turned a (count_r p) p (long, refl) ∙ rw (← one_less) in
+          (rw (rev_one v some, ne_eqb _ j k) at s.parity) ∙ ap (λ (n : ℕ). flip so_far (odd n)) e ∙ ap (flip so_far) (odd_add (binom a b) (rank (not turned) p))
 
-pub end : {j : ℕ} {w : List ℕ} {a b : ℕ} {turned so_far : Bool} → FromEnd j w a b turned so_far → a ≤ b → so_far ≡ odd (index j w)
-unfolding odd
-end {j} {w} {a} {b} {turned} {so_far} s h =
-    let p = letters_left j w a in
-    let l : length p ≡ a = left_long j w a s.left in
-    let c : count_r p ≡ a = omega (arith, s.rest, rests_turned j (take a w), rests_le j (take a w), length-take-le a w s.left) in
-    let z : rank turned p ≡ 0 = omega (arith, rw (binom_self a) at ((listed_l turned a a).below p (l, c))) in
-    sym (s.parity ∙ ap (λ (n : ℕ). flip so_far (odd n)) z ∙ flip_false so_far)
+      pub on_r : {odd_in_k : Bool} → odd_in_k ≡ odd (binom (length u) b) → FromEnd j w u (b - 1) (not turned) (not (beq so_far odd_in_k))
+      on_r is = record { rest = omega (arith, one_less, rests_turned j u); parity = rw (is, shorter) (parity_r ∙ unlike so_far (odd (binom a b)) _) }
+
+      pub some_r : 0 < b
+      some_r = omega (arith, one_less)
+
+  -- where only R is left
+  pub end : length v ≤ b → so_far ≡ odd (index j w)
+  unfolding odd
+  end h =
+      let p = pattern j (reverse v) in
+      let c : count_r p ≡ length v = omega (arith, fewer, s.rest, rests_turned j v) in
+      let z : rank turned p ≡ 0 = omega (arith, rw (binom_self (length v)) at ((listed_l turned (length v) (length v)).below p (length_turned j v, c))) in
+      sym (s.parity ∙ ap (λ (n : ℕ). flip so_far (odd n)) z ∙ flip_false so_far)

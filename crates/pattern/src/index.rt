@@ -15,57 +15,73 @@ pub struct Indexed {
     pub cuts: u32,
 }
 
-// Where a part of a list begins. The list begins at `from` and has `all` in it; of these, `ahead` stand before the part and `own` in it, or behind the
-// part where the list is turned.
-fn part_from(turned: bool, from: u64, all: u64, ahead: u64, own: u64) -> u64
-    requires { (ahead + own ≤ all) × (from + all < 2 ^ 64) }
-    ensures { (result + own ≤ from + all) × ((i : ℕ) → i < own → from + face turned all (ahead + i) ≡ result + face turned own i) }
-{
-    if turned {
-        return from + (all - ahead - own);
+// A part of a list of patterns: it begins at `from`, has `all` in it, and is turned where an odd number of parts was reversed.
+#[derive(Clone, Copy)]
+struct Part {
+    from: u64,
+    all: u64,
+    turned: bool,
+}
+
+impl Part {
+    // The part of this one that has `ahead` before it and `own` in it. Where this one is turned, they stand behind it.
+    #[tactic(auto, unfolding(rules::proofs::Listed::face))]
+    fn narrowed(self, ahead: u64, own: u64) -> Part
+        requires { (ahead + own ≤ self.all) × (self.from + self.all < 2 ^ 64) }
+        ensures { (result.all ≡ own) × (result.turned ≡ self.turned) × (result.from + own ≤ self.from + self.all) × ((i : ℕ) → i < own → self.from + face self.turned self.all (ahead + i) ≡ result.from + face self.turned own i) }
+    {
+        let before = if self.turned {
+            self.all - ahead - own
+        } else {
+            ahead
+        };
+        Part {
+            from: self.from + before,
+            all: own,
+            turned: self.turned,
+        }
     }
-    from + ahead
 }
 
 // By the rule, words that end in K come first, then those that end in K R, in reverse order, then those that end in R R. So each turn is a cut, which takes
-// one or two letters off the end of the word, and what is left of the list narrows: a letters and b letters R are left, with `all` their patterns, which
-// begin at `from` and are turned where an odd number of parts was reversed.
+// one or two letters off the end of the word, and what is left of the list narrows: a letters and b letters R are left, with the part of the list that has
+// their patterns.
 pub fn index_of(patterns: u64, word: &[u8], kind: u8, others: usize) -> Indexed
     requires { (length word.now ≤ 64) × (others ≡ rests kind word.now) × (patterns ≡ binom (length word.now) others) }
     ensures { (result.index ≡ index kind word.now) × (result.cuts ≡ cuts (pattern kind word.now)) }
 {
-    let mut a = word.len();
+    let mut left = word;
     let mut b = others;
-    let mut all = patterns;
-    let mut from: u64 = 0;
-    let mut turned = false;
+    let mut part = Part {
+        from: 0,
+        all: patterns,
+        turned: false,
+    };
     let mut cuts: u32 = 0;
-    while b < a {
-        if b == 0 {
-            return Indexed { index: from, cuts };
+    while let [but_two @ .., before, last] = left {
+        let a = left.len();
+        if b == 0 || b == a {
+            break;
         }
         cuts += 1;
-        let before = word[a - 2];
-        if word[a - 1] == kind {
-            let in_k = ends_in_k(all, a, b);
-            from = part_from(turned, from, all, 0, in_k);
-            all = in_k;
-            a -= 1;
-        } else if before == kind {
-            let in_k = ends_in_k(all, a, b);
-            let in_kr = ends_in_kr(all, a, b);
-            from = part_from(turned, from, all, in_k, in_kr);
-            all = in_kr;
-            turned = !turned;
-            a -= 2;
+        if *last == kind {
+            part = part.narrowed(0, ends_in_k(part.all, a, b));
+            left = &left[..a - 1];
+        } else if *before == kind {
+            let in_k = ends_in_k(part.all, a, b);
+            part = part.narrowed(in_k, ends_in_kr(part.all, a, b));
+            part.turned = !part.turned;
+            left = but_two;
             b -= 1;
         } else {
-            let in_rr = ends_in_rr(all, a, b);
-            from = part_from(turned, from, all, all - in_rr, in_rr);
-            all = in_rr;
-            a -= 2;
+            let in_rr = ends_in_rr(part.all, a, b);
+            part = part.narrowed(part.all - in_rr, in_rr);
+            left = but_two;
             b -= 2;
         }
     }
-    Indexed { index: from, cuts }
+    Indexed {
+        index: part.from,
+        cuts,
+    }
 }

@@ -9,12 +9,9 @@ pub fn reduce(strip: &[u8], kind: u8, word: &mut [u8]) -> usize
     ensures { (result ≡ length (reduced kind strip.now)) × (take result word.new ≡ reduced kind strip.now) }
 {
     let mut n: usize = 0;
-    let mut i = 0;
-    while i < strip.len() {
-        let block = strip[i];
-        i += 1;
-        word[n] = block;
-        if block <= kind {
+    for block in strip {
+        word[n] = *block;
+        if *block <= kind {
             n += 1;
         }
     }

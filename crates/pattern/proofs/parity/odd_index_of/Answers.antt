@@ -1,25 +1,28 @@
--- `pattern::parity::odd_index_of` meets its contract. The measure is the number of letters that are left.
+-- `pattern::parity::odd_index_of` meets its contract.
 use native.Mathlib.Omega.{arith}
-use Rattle.pattern.proofs.FromEnd.{start, on_k, on_turned, on_r, some_r, end}
+use Rattle.pattern.proofs.FromEnd.{start, fewer, shorter, on_k, on_turned, on_r, some_r, end}
 use Rattle.pattern.proofs.parity.odd_index_of.Goals as goal
 
-pub loop-b-init : goal.loop-b-init
-loop-b-init c = start _ _ _ c.requires
+pub loop-left-init : goal.loop-left-init
+loop-left-init c = start c.requires
 
-pub bounds-word-a : goal.bounds-word-a
-bounds-word-a c = omega (arith, c.loop-b.invariant.left)
-
-pub loop-b-preserved-then-turned : goal.loop-b-preserved-then-turned
-loop-b-preserved-then-turned c = on_turned c.loop-b.invariant (omega arith) c.if-word-a.true c.if-turned.true c.odd_choose-odd_in_k.ensures
-
-pub loop-b-preserved-else-turned : goal.loop-b-preserved-else-turned
-loop-b-preserved-else-turned c = on_k c.loop-b.invariant (omega arith) c.if-word-a.true c.if-turned.false
+pub odd_choose-odd_in_k-requires : goal.odd_choose-odd_in_k-requires
+odd_choose-odd_in_k-requires c = omega (arith, fewer c.loop-left.invariant, shorter c.loop-left.invariant (omega arith))
 
 pub overflow_sub-b : goal.overflow_sub-b
-overflow_sub-b c = omega (arith, some_r c.loop-b.invariant (omega arith) c.if-word-a.false)
+overflow_sub-b c = some_r c.loop-left.invariant (omega arith) c.if-last-kind.true
 
-pub loop-b-preserved : goal.loop-b-preserved
-loop-b-preserved c = on_r c.loop-b.invariant (omega arith) c.if-word-a.false c.odd_choose-odd_in_k.ensures
+pub loop-left-preserved-then-last-kind : goal.loop-left-preserved-then-last-kind
+loop-left-preserved-then-last-kind c = on_r c.loop-left.invariant (omega arith) c.if-last-kind.true c.odd_choose-odd_in_k.ensures
 
-pub returns : goal.returns
-returns c = end c.loop-b.invariant (omega arith)
+pub loop-left-preserved-then-turned : goal.loop-left-preserved-then-turned
+loop-left-preserved-then-turned c = on_turned c.loop-left.invariant (omega arith) c.if-last-kind.false c.if-turned.true c.odd_choose-odd_in_k.ensures
+
+pub loop-left-preserved : goal.loop-left-preserved
+loop-left-preserved c = on_k c.loop-left.invariant (omega arith) c.if-last-kind.false c.if-turned.false
+
+pub returns-in_default : goal.returns-in_default
+returns-in_default c = end c.loop-left.invariant (omega arith)
+
+pub returns-then-b-left : goal.returns-then-b-left
+returns-then-b-left c = end c.loop-left.invariant (omega arith)
