@@ -4,7 +4,8 @@ use mathlib.Core.Path.{◌≡◌, refl, sym, ap, ◌∙◌}
 use mathlib.Core.List.{List, [], ◌∷◌, ◌++◌}
 use native.Mathlib.Omega.{arith}
 use borrow.Author.Tests.{lt-ltb, le-ltb}
-use lib.ListN.{length, take, drop}
+use lib.ListN.{length, get_or, take, drop}
+use Rattle.std.specs.Prelude.{slice_get, unwrap_or}
 use lib.Seq.{take_at}
 use Rattle.rules.specs.Stock.{IsStock, IsStrip}
 use Rattle.rules.specs.Refusals.{No, fine, first_of, room_no}
@@ -53,6 +54,11 @@ module _ (sheet counts s : List ℕ) (v : Sound sheet counts s) where
     unfolding proper_sheet
     proper_is e = rw (v.stock, v.strip, e)
 
+-- the first of a list, and 0 where it has none
+or_zero : (l : List ℕ) → unwrap_or (slice_get l 0) 0 ≡ get_or l 0 0
+or_zero [] = refl
+or_zero (x ∷ l) = refl
+
 -- the front of what is written
 pub front_is : (z p t : List ℕ) (n : ℕ) → length p ≡ n → z ≡ p ++ t → take n z ≡ p
 front_is z p t n l e = ap (take n) e ∙ take_at p t n l
@@ -96,8 +102,8 @@ module _ (sheet out : List ℕ) where
     no_room h = stopped_by (13, 0) (last ∙ rw (← is, lt-ltb (length out) (83 + 3 * c) h)) (λ z. omega arith)
 
     pub rebuilt : 83 + 3 * c ≤ length out → (f : Found) → Holds (differing (sheet_of counts s c) sheet c) f → (z : List ℕ) → z ≡ sheet_of counts s c ++ drop (83 + 3 * c) out
-        → Leaves (record { refusal = refusal fine; moves = c; differing = f.many; first = f.first }) z
+        → Leaves (record { refusal = refusal fine; moves = c; differing = f.many; first = unwrap_or f.first 0 }) z
     unfolding rebuild_answer rebuild_out first_of
     rebuilt room f h z e =
         let n : first_of (rebuild_nos sheet out) ≡ fine = last ∙ rw (← is, le-ltb (length out) (83 + 3 * c) room) in
-        rw (n, ← is, ← proper_is sheet counts s v c is, h.many, h.first) (refl, e)
+        rw (n, ← is, ← proper_is sheet counts s v c is, h.many, h.first, or_zero) (refl, e)

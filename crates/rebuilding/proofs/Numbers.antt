@@ -1,7 +1,7 @@
 -- Proofs. The numbers of the records that differ, as they are found: how many, and the first.
 use Prim.Native.Nat.{ℕ, zero, suc, ◌+◌, ◌≤◌, ◌<◌}
 use mathlib.Core.Path.{◌≡◌, refl, sym, ap, ◌∙◌}
-use mathlib.Core.Bool.{Bool, true, false, true≢false}
+use mathlib.Core.Bool.{Bool, true, false, not, true≢false}
 use mathlib.Core.List.{List, [], ◌∷◌, ◌++◌, append-nil}
 use native.Mathlib.Numerals.{add-one}
 use native.Mathlib.Decide.{ℕ_discrete}
@@ -10,27 +10,12 @@ use lib.ListN.{length, get_or, length-append}
 use Rattle.rules.specs.Book.{same}
 use Rattle.rules.proofs.Places.{same_self, same_true}
 use Rattle.rebuilding.specs.declared.differing.Found.{Found}
+use Rattle.std.proofs.Common.{None, eqb}
+use Rattle.std.proofs.lemmas.Bool.Decides.{Decides-eqb}
+use Rattle.std.specs.Cmp.Lexicographic.{pointwise}
+use Rattle.std.proofs.lemmas.Slice.Eq.{slice_eq-Decides}
 use Rattle.rebuilding.specs.Rebuilding.{bytes_behind, unless_same, differing}
 use Rattle.rebuilding.specs.Parts.{Holds, Joins}
-
--- ---- one record more
-
-pub joins_same : (f : Found) (equal : Bool) (i : ℕ) → equal ≡ true → Joins f equal i f
-joins_same f equal i e = rw e record { joined = λ l h. rw (append-nil l) h }
-
-pub joins_first : (f : Found) (equal : Bool) (i : ℕ) → equal ≡ false → f.many ≡ 0 → Joins f equal i (record { many = 1; first = i })
-joins_first f equal i e z = rw e record { joined = go }
-  where
-    go : (l : List ℕ) → Holds l f → Holds (l ++ (i ∷ [])) (record { many = 1; first = i })
-    go [] h = record { many = refl; first = refl }
-    go (x ∷ l) h = absurd (omega (arith, h.many, z))
-
-pub joins_later : (f : Found) (equal : Bool) (i : ℕ) → equal ≡ false → (f.many ≡ 0 → ⊥) → Joins f equal i (record { many = f.many + 1; first = f.first })
-joins_later f equal i e z = rw e record { joined = go }
-  where
-    go : (l : List ℕ) → Holds l f → Holds (l ++ (i ∷ [])) (record { many = f.many + 1; first = f.first })
-    go [] h = absurd (z h.many)
-    go (x ∷ l) h = record { many = omega (arith, h.many, length-append l (i ∷ [])); first = h.first }
 
 -- ---- the numbers of the records that differ
 
@@ -45,20 +30,47 @@ none_same false i e = absurd (omega arith)
 not_same : (a b : List ℕ) → same a b ≡ false → a ≡ b → ⊥
 not_same a b f e = true≢false (sym (rw e (same_self b)) ∙ f)
 
+-- what the test of two slices says
+module _ (a b : List ℕ) where
+  pub like : false ≡ not (pointwise eqb a b) → a ≡ b
+  like e = go (pointwise eqb a b) refl e
+    where
+      go : (r : Bool) → r ≡ pointwise eqb a b → false ≡ not r → a ≡ b
+      go true k e = (slice_eq-Decides Decides-eqb a b true k).0 refl
+      go false k e = absurd (true≢false (sym e))
+
+  pub unlike : true ≡ not (pointwise eqb a b) → a ≡ b → ⊥
+  unlike e h = go (pointwise eqb a b) refl e
+    where
+      go : (r : Bool) → r ≡ pointwise eqb a b → true ≡ not r → ⊥
+      go true k e = true≢false e
+      go false k e = true≢false (sym ((slice_eq-Decides Decides-eqb a b false k).1 h))
+
+other_false : (a b : List ℕ) → (a ≡ b → ⊥) → same a b ≡ false
+other_false a b h = go (same a b) refl
+  where
+    go : (r : Bool) → same a b ≡ r → r ≡ false
+    go true e = absurd (h (same_true a b e))
+    go false e = refl
+
 module _ (proper damaged : List ℕ) where
   -- whether the record of move c + 1 is the same
   abbrev alike : ℕ → Bool
   alike c = same (bytes_behind c proper) (bytes_behind c damaged)
 
-  pub none_yet : Holds (differing proper damaged 0) (record { many = 0; first = 0 })
+  pub none_yet : Holds (differing proper damaged 0) (record { many = 0; first = None })
   unfolding differing
   none_yet = record { many = refl; first = refl }
 
   -- with one record more
-  pub next : (c : ℕ) (f r : Found) (equal : Bool) → Holds (differing proper damaged c) f → equal ≡ alike c → Joins f equal (c + 1) r
+  pub next_same : (c : ℕ) (f : Found) → Holds (differing proper damaged c) f → bytes_behind c proper ≡ bytes_behind c damaged → Holds (differing proper damaged (c + 1)) f
+  unfolding differing
+  next_same c f h e = rw (add-one c, e, same_self (bytes_behind c damaged), append-nil (differing proper damaged c)) h
+
+  pub next_other : (c : ℕ) (f r : Found) → Holds (differing proper damaged c) f → (bytes_behind c proper ≡ bytes_behind c damaged → ⊥) → Joins f (c + 1) r
       → Holds (differing proper damaged (c + 1)) r
   unfolding differing
-  next c f r equal h e j = rw (add-one c) (rw (e, add-one c) at (j.joined (differing proper damaged c) h))
+  next_other c f r h e j = rw (add-one c, other_false (bytes_behind c proper) (bytes_behind c damaged) e) (rw (add-one c) at (j.joined (differing proper damaged c) h))
 
   -- no more differ than there are
   pub few : (c : ℕ) → length (differing proper damaged c) ≤ c

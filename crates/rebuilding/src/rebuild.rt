@@ -43,7 +43,7 @@ fn rebuild_from(sheet: &[u8], stock: &[u16], strip: &[u8], out: &mut [u8]) -> Re
         refusal: Refusal { no: 0, place: 0 },
         moves: moves as u64,
         differing: found.many,
-        first: found.first,
+        first: found.first.unwrap_or(0),
     }
 }
 

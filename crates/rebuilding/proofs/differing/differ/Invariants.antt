@@ -1,11 +1,7 @@
 -- `rebuilding::differing::differ` meets its contract. The invariant: what is found is of the first i records.
-use Prim.Native.Nat.{◌-◌, ◌≤◌}
 use Rattle.rebuilding.specs.Rebuilding.{differing}
 use Rattle.rebuilding.specs.Parts.{Holds}
 use Rattle.rebuilding.proofs.differing.differ.Given as goal
 
 abbrev pub invariant-loop-i : goal.invariant-loop-i
-invariant-loop-i l = (l.i ≤ l.moves) × Holds (differing l.proper l.damaged l.i) l.found
-
-abbrev pub decreases-loop-i : goal.decreases-loop-i
-decreases-loop-i l = l.moves - l.i
+invariant-loop-i l = Holds (differing l.proper l.damaged l.i) l.found
