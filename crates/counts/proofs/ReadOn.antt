@@ -1,5 +1,5 @@
 -- Proofs. A line on its way to be read: the counts that are done, the one that has begun, and what is left.
-use Prim.Native.Nat.{ℕ, suc, ◌+◌, ◌*◌, ◌-◌, ◌≤◌, ◌<◌}
+use Prim.Native.Nat.{ℕ, ◌+◌, ◌*◌, ◌-◌, ◌≤◌, ◌<◌}
 use mathlib.Core.Path.{◌≡◌, refl, sym, ap, ◌∙◌}
 use mathlib.Core.Bool.{Bool, true, false, ◌&&◌}
 use mathlib.Core.Option.{Option, none, some}
@@ -8,11 +8,12 @@ use native.Mathlib.Numerals.{add-one}
 use native.Mathlib.Omega.{arith}
 use borrow.Author.Tests.{lt-leb, le-leb, eq-eqb, ne_eqb}
 use lib.Dec.{eqb}
-use lib.ListN.{length, get_or, take, drop, set, replicate, length-append, drop_of_length-le}
-use lib.Seq.{drop-cons, set_at}
+use lib.ListN.{length, get_or, drop, length-append, drop_of_length-le}
+use lib.Seq.{drop-cons, take-append_seam, get_or-append_seam}
+use Rattle.std.specs.Prelude.{Option as Answer, Some, None}
 use Rattle.rules.specs.Refusals.{pick}
 use Rattle.lines.specs.Text.{feed, space}
-use Rattle.counts.specs.Reading.{takes, before, read_from, counts_read, line_read}
+use Rattle.counts.specs.Reading.{takes, before, read_from, counts_read, has_begun, value_of, line_read}
 
 -- ---- one byte
 
@@ -44,75 +45,48 @@ and_false true = refl
 
 -- ---- the bytes up to i
 
-pub record ReadOn (line counts : List ℕ) (kinds : ℕ) (begun : Bool) (value i : ℕ) : Type 0 where
-  pub done : List ℕ
-  pub passed : i ≤ length line
-  pub many : length done ≡ kinds
-  pub stored : counts ≡ done ++ replicate (128 - kinds) 0
-  pub few : 2 * kinds + pick begun 1 0 ≤ i
-  pub rest : before done (read_from begun value (drop i line)) ≡ read_from false 0 line
+pub record ReadOn (line counts : List ℕ) (begun : Answer ℕ) (i : ℕ) : Type 0 where
+  pub few : 2 * length counts + pick (has_begun begun) 1 0 ≤ i
+  pub rest : before counts (read_from (has_begun begun) (value_of begun) (drop i line)) ≡ read_from false 0 line
 
-pub start : (line : List ℕ) → ReadOn line (replicate 128 0) 0 false 0 0
-start line = record { done = []; passed = omega arith; many = refl; stored = refl; few = omega arith; rest = before_none (read_from false 0 line) }
+pub start : (line : List ℕ) → ReadOn line [] None 0
+start line = record { few = omega arith; rest = before_none (read_from false 0 line) }
 
-module _ {line counts : List ℕ} {kinds : ℕ} {begun : Bool} {value i : ℕ} (r : ReadOn line counts kinds begun value i) where
-  -- a count that has begun has room
-  pub room : length line ≤ 254 → begun ≡ true → kinds < 127
-  room short b = let f : 2 * kinds + 1 ≤ i = rw b at r.few in omega (arith, r.passed)
+module _ {line counts : List ℕ} {i : ℕ} (h : i < length line) where
+  pub digit : {begun : Answer ℕ} → ReadOn line counts begun i → takes (has_begun begun) (value_of begun) (get_or line i 0) ≡ true
+      → {value : ℕ} → value ≡ 10 * value_of begun + (get_or line i 0 - 48) → ReadOn line counts (Some value) (i + 1)
+  digit {begun} r t {value} e = record {
+    few = omega (arith, r.few);
+    rest = rw e (ap (before counts) (sym (read_digit line i h (has_begun begun) (value_of begun) t)) ∙ r.rest);
+  }
 
-  -- and is stored
-  stored : kinds < 128 → set counts kinds value ≡ (r.done ++ (value ∷ [])) ++ replicate (128 - (kinds + 1)) 0
-  stored k =
-      let e : 128 - kinds ≡ suc (128 - (kinds + 1)) = omega arith in
-      ap (λ (c : List ℕ). set c kinds value) r.stored ∙ rw e (set_at r.done 0 (replicate (128 - (kinds + 1)) 0) value kinds r.many) ∙ sym (append_assoc r.done (value ∷ []) _)
+  pub next : {value : ℕ} → ReadOn line counts (Some value) i → takes true value (get_or line i 0) ≡ false → get_or line i 0 ≡ space → ReadOn line (counts ++ (value ∷ [])) None (i + 1)
+  next {value} r t e = record {
+    few = omega (arith, r.few, length-append counts (value ∷ []));
+    rest = sym (before_before counts (value ∷ []) (read_from false 0 (drop (i + 1) line))) ∙ ap (before counts) (sym (read_space line i h true value refl t e)) ∙ r.rest;
+  }
 
-  longer : length (r.done ++ (value ∷ [])) ≡ kinds + 1
-  longer = length-append r.done (value ∷ []) ∙ ap (λ (n : ℕ). n + 1) r.many
+  -- no digit, and no space that ends a count
+  stuck : {begun : Answer ℕ} → ReadOn line counts begun i → takes (has_begun begun) (value_of begun) (get_or line i 0) ≡ false → has_begun begun && eqb (get_or line i 0) space ≡ false
+      → None ≡ line_read (read_from false 0 line)
+  stuck {begun} r t e = ap line_read (ap (before counts) (sym (read_stuck line i h (has_begun begun) (value_of begun) t e)) ∙ r.rest)
 
-  module _ (h : i < length line) where
-    pub digit : takes begun value (get_or line i 0) ≡ true → ReadOn line counts kinds true (10 * value + (get_or line i 0 - 48)) (i + 1)
-    digit t = record {
-      done = r.done;
-      passed = omega arith;
-      many = r.many;
-      stored = r.stored;
-      few = omega (arith, r.few);
-      rest = ap (before r.done) (sym (read_digit line i h begun value t)) ∙ r.rest;
-    }
+  pub not_begun : ReadOn line counts None i → takes false 0 (get_or line i 0) ≡ false → None ≡ line_read (read_from false 0 line)
+  not_begun r t = stuck r t refl
 
-    pub next : kinds < 128 → begun ≡ true → takes begun value (get_or line i 0) ≡ false → get_or line i 0 ≡ space → ReadOn line (set counts kinds value) (kinds + 1) false 0 (i + 1)
-    next k b t e = record {
-      done = r.done ++ (value ∷ []);
-      passed = omega arith;
-      many = longer;
-      stored = stored k;
-      few = let f : 2 * kinds + 1 ≤ i = rw b at r.few in omega arith;
-      rest = sym (before_before r.done (value ∷ []) (read_from false 0 (drop (i + 1) line))) ∙ ap (before r.done) (sym (read_space line i h begun value b t e)) ∙ r.rest;
-    }
+  pub no_space : {value : ℕ} → ReadOn line counts (Some value) i → takes true value (get_or line i 0) ≡ false → (get_or line i 0 ≡ space → ⊥) → None ≡ line_read (read_from false 0 line)
+  no_space r t n = stuck r t (rw (ne_eqb (get_or line i 0) space n))
 
-    -- no digit, and no space that ends a count
-    stuck : takes begun value (get_or line i 0) ≡ false → begun && eqb (get_or line i 0) space ≡ false → line_read none ≡ line_read (read_from false 0 line)
-    stuck t e = ap line_read (ap (before r.done) (sym (read_stuck line i h begun value t e)) ∙ r.rest)
+module _ {line counts : List ℕ} {i : ℕ} (h : length line ≤ i) where
+  -- no count at the end
+  pub open_end : ReadOn line counts None i → None ≡ line_read (read_from false 0 line)
+  unfolding read_from
+  open_end r = ap line_read (rw (drop_of_length-le line {i = i} h) at r.rest)
 
-    pub not_begun : takes begun value (get_or line i 0) ≡ false → begun ≡ false → line_read none ≡ line_read (read_from false 0 line)
-    not_begun t b = stuck t (rw b)
-
-    pub no_space : takes begun value (get_or line i 0) ≡ false → (get_or line i 0 ≡ space → ⊥) → line_read none ≡ line_read (read_from false 0 line)
-    no_space t n = stuck t (rw (ne_eqb (get_or line i 0) space n) (and_false begun))
-
-  module _ (h : length line ≤ i) where
-    all : before r.done (read_from begun value []) ≡ read_from false 0 line
-    all = rw (drop_of_length-le line {i = i} h) at r.rest
-
-    -- no count at the end
-    pub open_end : begun ≡ false → line_read none ≡ line_read (read_from false 0 line)
-    unfolding read_from
-    open_end b = ap line_read (rw b at all)
-
-    -- the last count
-    pub end : kinds < 128 → begun ≡ true → record { readable = true; kinds = kinds + 1; counts = set counts kinds value } ≡ line_read (read_from false 0 line)
-    unfolding read_from
-    end k b = rw (stored k, ← longer) (ap line_read (rw b at all))
+  -- the last count
+  pub end : {value : ℕ} → ReadOn line counts (Some value) i → Some (counts ++ (value ∷ [])) ≡ line_read (read_from false 0 line)
+  unfolding read_from
+  end r = ap line_read (rw (drop_of_length-le line {i = i} h) at r.rest)
 
 -- ---- the line feed and the length
 
@@ -129,11 +103,15 @@ module _ (input : List ℕ) where
   unfolding counts_read
   long_line h = rw (lt-leb (length input) 255 h)
 
-  module _ (h : length input ≤ 255) where
-    pub no_feed : (get_or input (length input - 1) 0 ≡ feed → ⊥) → counts_read input ≡ none
-    unfolding counts_read
-    no_feed n = rw (le-leb (length input) 255 h, ne_eqb (get_or input (length input - 1) 0) feed n)
+-- a line with its last byte
+module _ (line : List ℕ) (last : ℕ) (h : length (line ++ (last ∷ [])) ≤ 255) where
+  at_last : length (line ++ (last ∷ [])) - 1 ≡ length line
+  at_last = omega (arith, length-append line (last ∷ []))
 
-    pub with_feed : get_or input (length input - 1) 0 ≡ feed → counts_read input ≡ read_from false 0 (take (length input - 1) input)
-    unfolding counts_read
-    with_feed e = rw (le-leb (length input) 255 h, eq-eqb (get_or input (length input - 1) 0) feed e)
+  pub no_feed : (last ≡ feed → ⊥) → counts_read (line ++ (last ∷ [])) ≡ none
+  unfolding counts_read
+  no_feed n = rw (le-leb (length (line ++ (last ∷ []))) 255 h, at_last, get_or-append_seam line last [] 0, ne_eqb last feed n)
+
+  pub with_feed : last ≡ feed → counts_read (line ++ (last ∷ [])) ≡ read_from false 0 line
+  unfolding counts_read
+  with_feed e = rw (le-leb (length (line ++ (last ∷ []))) 255 h, at_last, get_or-append_seam line last [] 0, eq-eqb last feed e, take-append_seam line (last ∷ []))

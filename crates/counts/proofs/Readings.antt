@@ -6,14 +6,15 @@ use mathlib.Core.Option.{Option, none, some}
 use mathlib.Core.List.{List, [], ◌∷◌, ◌++◌, map, append_assoc}
 use native.Mathlib.Decide.{dec_lt}
 use native.Mathlib.Omega.{arith}
-use borrow.Author.Tests.{leb-true, eqb-true, le-leb}
+use borrow.Author.Tests.{leb-true, eqb-true}
 use lib.Dec.{eqb, leb}
-use lib.ListN.{length, get_or, take, length-append, get_or-eq_default}
-use lib.Seq.{take-append_seam, get_or-append_seam, take-length, take-suc}
+use lib.ListN.{length, get_or, take, get_or-eq_default}
+use lib.Seq.{take-length, take-suc}
 use Rattle.lines.specs.Text.{feed, space, decimal, preceded, joined}
 use Rattle.counts.specs.Readable.{line_of, Readable}
 use Rattle.counts.specs.Reading.{takes, before, read_from, counts_read}
 use Rattle.lines.proofs.Decimals.{decimal_last, decimal_only}
+use Rattle.counts.proofs.ReadOn.{with_feed}
 use Rattle.counts.proofs.Taking.{both, Taken, taken, taken_back}
 
 -- ---- a readable line is read
@@ -65,18 +66,9 @@ body_read (c ∷ cs) n h =
     below_1000 c (h 0 (omega arith)) (preceded space (map decimal cs)) ∙ rest_read c cs k
 
 pub readable_read : (counts input : List ℕ) → Readable counts input → counts_read input ≡ some counts
-unfolding counts_read line_of
+unfolding line_of
 readable_read counts input r =
-    let body = joined space (map decimal counts) in
-    let e : length (body ++ (feed ∷ [])) - 1 ≡ length body = omega (arith, length-append body (feed ∷ [])) in
-    rw (
-      le-leb (length input) 255 r.short,
-      r.line,
-      e,
-      get_or-append_seam body feed [] 0,
-      take-append_seam body (feed ∷ []),
-      body_read counts r.some r.each,
-    )
+    ap counts_read r.line ∙ with_feed (joined space (map decimal counts)) feed (rw r.line at r.short) refl ∙ body_read counts r.some r.each
 
 -- ---- what is read is a readable line
 

@@ -8,7 +8,7 @@ use borrow.Fn.Kinds.{Dens, ended_of}
 use denote.Triple.Clauses.{AtExit}
 use Rattle.rules.specs.Outcome.{OneAnswer}
 use Rattle.counts.specs.Readable.{Readable}
-use Rattle.counts.specs.declared.LineRead.{LineRead}
+use Rattle.std.specs.Prelude.{Option as Answer}
 use Rattle.counts.specs.Reading.{counts_read, line_read}
 use Rattle.counts.proofs.Readings.{readable_read, read_readable}
 use Rattle.counts.proofs.read_line.Kinds as read_line
@@ -23,7 +23,7 @@ pub readable_once : (a b input : List ℕ) → Readable a input → Readable b i
 readable_once a b input p q = cc (readable_read a input p, readable_read b input q)
 
 -- what an answer must be: the counts of the line where it can be read, and unreadable where no counts have that line
-pub record LineRight (input : List ℕ) (r : LineRead) : Type 0 where
+pub record LineRight (input : List ℕ) (r : Answer (List ℕ)) : Type 0 where
   pub read : (counts : List ℕ) → Readable counts input → r ≡ line_read (some counts)
   pub unreadable : ((counts : List ℕ) → Readable counts input → ⊥) → r ≡ line_read none
 
@@ -31,7 +31,7 @@ pub nothing_read : (input : List ℕ) → ((counts : List ℕ) → Readable coun
 nothing_read input h none e = refl
 nothing_read input h (some counts) e = absurd (h counts (read_readable counts input e))
 
-pub line_right : (κs : Lfts 1) (a : Dens κs read_line.ps) (r : LineRead) (s : AtExit (ended_of 1 read_line.ps read_line.r) κs) → read_line_reads.Post κs a r s → LineRight a.0.now r
+pub line_right : (κs : Lfts 1) (a : Dens κs read_line.ps) (r : Answer (List ℕ)) (s : AtExit (ended_of 1 read_line.ps read_line.r) κs) → read_line_reads.Post κs a r s → LineRight a.0.now r
 line_right κs a r s h = record {
   read = λ counts p. h ∙ ap line_read (readable_read counts a.0.now p);
   unreadable = λ n. h ∙ ap line_read (nothing_read a.0.now n (counts_read a.0.now) refl);

@@ -1,9 +1,9 @@
 -- How the programs' line is read, byte after byte. What is read is exactly a readable line's counts (`read_readable`, `readable_read`, proved), so
 -- nothing here is to be believed.
-use Rattle.std.specs.Prelude.{ℕ, ◌+◌, ◌*◌, ◌-◌, Bool, true, false, not, cond, ◌&&◌, ◌||◌, List, [], ◌∷◌, ◌++◌, eqb, ltb, leb, length, get_or, take, replicate}
+use Rattle.std.specs.Prelude.{ℕ, ◌+◌, ◌*◌, ◌-◌, Bool, true, false, not, cond, ◌&&◌, ◌||◌, List, [], ◌∷◌, ◌++◌, eqb, ltb, leb, length, get_or, take}
 use Rattle.std.proofs.Math.Option.{Option, none, some}
+use Rattle.std.specs.Prelude.{Option as Answer, Some, None}
 use Rattle.lines.specs.Text.{feed, space}
-use Rattle.counts.specs.declared.LineRead.{LineRead}
 
 -- whether a byte is a digit that may stand next in a count: there is none yet, or what is read is not 0 and has fewer than three digits
 abbrev pub takes : Bool → ℕ → ℕ → Bool
@@ -24,7 +24,16 @@ unfoldable pub counts_read : List ℕ → Option (List ℕ)
 unfolding read_from
 counts_read input = cond (leb (length input) 255 && eqb (get_or input (length input - 1) 0) feed) (read_from false 0 (take (length input - 1) input)) none
 
--- what is read as the record that a call hands back: the counts stand at the start, and their number beside them
-abbrev pub line_read : Option (List ℕ) → LineRead
-line_read none = record { readable = false; kinds = 0; counts = replicate 128 0 }
-line_read (some counts) = record { readable = true; kinds = length counts; counts = counts ++ replicate (128 - length counts) 0 }
+-- a count on its way: whether its first digit is read, and what is read of it
+abbrev pub has_begun : Answer ℕ → Bool
+has_begun None = false
+has_begun (Some value) = true
+
+abbrev pub value_of : Answer ℕ → ℕ
+value_of None = 0
+value_of (Some value) = value
+
+-- what is read as a call hands it back
+abbrev pub line_read : Option (List ℕ) → Answer (List ℕ)
+line_read none = None
+line_read (some counts) = Some counts

@@ -1,102 +1,66 @@
 // The counts of the line that the printing programs read.
 #![tactic(auto)]
 
-ghost use Rattle.std.specs.Prelude.{◌≤◌, ◌≡◌, false, length};
-ghost use Rattle.std.proofs.Math.Option.{none};
-ghost use Rattle.counts.specs.Reading.{takes, read_from, counts_read, line_read};
+mod counts;
 
-// What was read: whether the line can be read, how many counts it has, and the counts, in order. 255 bytes hold at most 127 counts.
-#[derive(Clone, Copy)]
-pub struct LineRead {
-    pub readable: bool,
-    pub kinds: usize,
-    pub counts: [u16; 128],
-}
+ghost use Rattle.std.specs.Prelude.{◌+◌, ◌*◌, ◌-◌, ◌≤◌, ◌≡◌, true, false, length, MatchOption};
+ghost use Rattle.counts.specs.Reading.{takes, read_from, counts_read, has_begun, value_of, line_read};
 
-fn unreadable() -> LineRead
-    ensures { result ≡ line_read none }
+pub use counts::Counts;
+
+// A count with one more digit; none where the byte is no digit that may stand next.
+fn with_digit(begun: Option<u16>, byte: u8) -> Option<u16>
+    ensures { MatchOption
+        result
+        (takes (has_begun begun) (value_of begun) byte ≡ false)
+        (λ value. (takes (has_begun begun) (value_of begun) byte ≡ true) × (value ≡ 10 * value_of begun + (byte - 48))) }
 {
-    LineRead {
-        readable: false,
-        kinds: 0,
-        counts: [0; 128],
+    if !matches!(byte, b'0'..=b'9') {
+        return None;
     }
-}
-
-// Whether a byte is a digit that may stand next in a count.
-fn takes_digit(begun: bool, value: u16, byte: u8) -> bool
-    ensures { result ≡ takes begun value byte }
-{
-    if byte < 48 {
-        return false;
+    let digit = u16::from(byte - b'0');
+    match begun {
+        None => Some(digit),
+        Some(value) if 0 < value && value < 100 => Some(10 * value + digit),
+        Some(_) => None,
     }
-    if 57 < byte {
-        return false;
-    }
-    if 100 <= value {
-        return false;
-    }
-    if begun {
-        return 0 < value;
-    }
-    true
 }
 
 // The counts of a line without its line feed.
-fn read_counts(line: &[u8]) -> LineRead
+fn read_counts(line: &[u8]) -> Option<Counts>
     requires { length line.now ≤ 254 }
     ensures { result ≡ line_read (read_from false 0 line.now) }
 {
-    let mut counts: [u16; 128] = [0; 128];
-    let mut kinds: usize = 0;
-    let mut begun: bool = false;
-    let mut value: u16 = 0;
-    let mut i = 0;
-    while i < line.len() {
-        let byte = line[i];
-        i += 1;
-        if takes_digit(begun, value, byte) {
-            begun = true;
-            value = 10 * value + (byte - 48) as u16;
+    let mut counts = Counts::new();
+    let mut begun: Option<u16> = None;
+    for byte in line {
+        if let Some(value) = with_digit(begun, *byte) {
+            begun = Some(value);
         } else {
-            if !begun {
-                return unreadable();
+            let value = begun?;
+            if *byte != b' ' {
+                return None;
             }
-            if byte != b' ' {
-                return unreadable();
-            }
-            counts[kinds] = value;
-            kinds += 1;
-            begun = false;
-            value = 0;
+            counts.push(value);
+            begun = None;
         }
     }
-    if !begun {
-        return unreadable();
-    }
-    counts[kinds] = value;
-    LineRead {
-        readable: true,
-        kinds: kinds + 1,
-        counts,
-    }
+    counts.push(begun?);
+    Some(counts)
 }
 
-// The counts of a line: it ends with a line feed, and has at most 255 bytes.
-#[tactic(auto, using(crate::proofs::ReadOn::no_bytes, crate::proofs::ReadOn::long_line, crate::proofs::ReadOn::no_feed))]
-pub fn read_line(input: &[u8]) -> LineRead
+// The counts of a line: it ends with a line feed, and has at most 255 bytes. None where it cannot be read.
+
+#[tactic(auto, using(crate::proofs::ReadOn::no_bytes, crate::proofs::ReadOn::long_line))]
+pub fn read_line(input: &[u8]) -> Option<Counts>
     ensures { result ≡ line_read (counts_read input.now) }
 {
-    let bytes = input.len();
-    if bytes == 0 {
-        return unreadable();
+    if 255 < input.len() {
+        return None;
     }
-    if 255 < bytes {
-        return unreadable();
+    let (end, line) = input.split_last()?;
+    if *end != b'\n' {
+        return None;
     }
-    let end = bytes - 1;
-    if input[end] != b'\n' {
-        return unreadable();
-    }
-    read_counts(&input[..end])
+    read_counts(line)
 }
