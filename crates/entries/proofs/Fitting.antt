@@ -1,10 +1,12 @@
 -- Proofs. A number of orders that fits 64 bits, or 0 in its place; and the orders of one block more.
-use Prim.Native.Nat.{ℕ, suc, ◌+◌, ◌-◌, ◌*◌, ◌/◌, ◌%◌, ◌≤◌, ◌<◌, ◌^◌}
+use Prim.Native.Nat.{ℕ, suc, ◌+◌, ◌*◌, ◌/◌, ◌%◌, ◌≤◌, ◌<◌, ◌^◌}
 use mathlib.Core.Path.{◌≡◌, sym, ap, ◌∙◌}
 use native.Mathlib.Decide.{dec_lt}
-use native.Mathlib.Nat.{mod-lt, div-le_self, mul-le-mul, mul-lt-mul_of_pos_right, div-lt_iff_lt-mul, le-div_iff_mul-le, mul-div-mul_right}
+use native.Mathlib.Nat.{mod-lt, div-le_self, mul-le-mul, mul-lt-mul_of_pos_right, div-lt_iff_lt-mul, mul-div-mul_right}
 use native.Mathlib.Omega.{arith}
 use borrow.Author.Tests.{le-leb, lt-leb}
+use Rattle.std.specs.Prelude.{Option, Some, None}
+use Rattle.std.specs.Option.{SomeIff}
 use Rattle.choose.proofs.Fractions.{parts}
 use Rattle.entries.specs.Fitting.{fitting}
 
@@ -15,26 +17,30 @@ same_share a b c d part h =
     let f : suc d * suc c ≡ suc c * suc d = omega arith in
     sym (mul-div-mul_right {m = suc c} (a * part) (suc d) (omega arith)) ∙ rw (e, f) (mul-div-mul_right {m = suc d} (b * part) (suc c) (omega arith))
 
--- ---- a number that fits, or 0
+-- ---- a number that fits, or none
 
-pub fits : (v : ℕ) → v < 2 ^ 64 → v ≡ fitting v
+pub fits : (v : ℕ) → v < 2 ^ 64 → Some v ≡ fitting v
 fits v h = rw (lt-leb (2 ^ 64) v h)
 
-pub over : (v : ℕ) → 2 ^ 64 ≤ v → 0 ≡ fitting v
+pub over : (v : ℕ) → 2 ^ 64 ≤ v → None ≡ fitting v
 over v h = rw (le-leb (2 ^ 64) v h)
 
-module _ (r v : ℕ) (is : r ≡ fitting v) where
-  pub zero_over : r ≡ 0 → 0 < v → 2 ^ 64 ≤ v
-  zero_over z some = elim (dec_lt v (2 ^ 64)) [
-    | yes h ↦ absurd (omega (arith, is ∙ sym (fits v h)))
-    | no h ↦ omega arith
-  ]
+-- what a checked operation answers
+pub fits_if : (r : Option ℕ) (v : ℕ) → SomeIff r (v < 2 ^ 64) v → r ≡ fitting v
+fits_if None v h = over v (omega (arith, h))
+fits_if (Some r) v h = rw (h.1) (fits v h.0)
 
-  pub some_fits : (r ≡ 0 → ⊥) → (v < 2 ^ 64) × (r ≡ v)
-  some_fits n = elim (dec_lt v (2 ^ 64)) [
-    | yes h ↦ (h, is ∙ sym (fits v h))
-    | no h ↦ absurd (n (is ∙ sym (over v (omega arith))))
-  ]
+pub none_over : (v : ℕ) → None ≡ fitting v → 2 ^ 64 ≤ v
+none_over v e = elim (dec_lt v (2 ^ 64)) [
+  | yes h ↦ let f = fits v h in absurd (cc)
+  | no h ↦ omega arith
+]
+
+pub some_fits : (r v : ℕ) → Some r ≡ fitting v → (v < 2 ^ 64) × (r ≡ v)
+some_fits r v e = elim (dec_lt v (2 ^ 64)) [
+  | yes h ↦ let f = fits v h in (h, cc)
+  | no h ↦ let f = over v (omega arith) in absurd (cc)
+]
 
 -- ---- the orders of n blocks, from those without one of the blocks that are alike
 
@@ -48,18 +54,17 @@ module _ (orders n alike : ℕ) (some : 0 < alike) (few : alike ≤ n) (short : 
   pub rest_short : rest < n
   rest_short = (div-lt_iff_lt-mul {k = alike} some).1 (omega (arith, mul-lt-mul_of_pos_right {m = orders % alike} {n = alike} {k = n} (mod-lt orders {m = alike} some) (omega arith)))
 
-  -- the product fits where the orders are few, or where it is compared
+  -- the product fits where the orders are few, or where it is worked out with a check
   pub safe : orders ≤ 288230376151711743 → orders * n ≤ 18446744073709551615
   safe h = omega (arith, mul-le-mul {n₁ = orders} {m₁ = n} {n₂ = 288230376151711743} {m₂ = 64} h short)
 
-  pub safe_grows : orders ≤ 288230376151711743 → orders * n / alike ≡ fitting (orders * n / alike)
+  pub safe_grows : orders ≤ 288230376151711743 → Some (orders * n / alike) ≡ fitting (orders * n / alike)
   safe_grows h = fits (orders * n / alike) (omega (arith, safe h, div-le_self (orders * n) alike))
 
-  pub under : each ≤ (18446744073709551615 - rest) / n → each * n + rest ≤ 18446744073709551615
-  under h = omega (arith, rest_short, (le-div_iff_mul-le {k = n} (omega arith)).0 h)
+  pub beyond : 2 ^ 64 ≤ each * n → None ≡ fitting (orders * n / alike)
+  beyond h = over (orders * n / alike) (omega (arith, h, parts orders n alike some))
 
-  pub beyond : (18446744073709551615 - rest) / n < each → 0 ≡ fitting (orders * n / alike)
-  beyond h = over (orders * n / alike) (omega (arith, rest_short, (div-lt_iff_lt-mul {k = n} (omega arith)).0 h, parts orders n alike some))
-
-  pub grows : each * n + rest ≤ 18446744073709551615 → each * n + rest ≡ fitting (orders * n / alike)
-  grows h = parts orders n alike some ∙ fits (orders * n / alike) (omega (arith, parts orders n alike some))
+  pub grows : (r : Option ℕ) (most : ℕ) → most ≡ each * n → SomeIff r (most + rest < 2 ^ 64) (most + rest) → r ≡ fitting (orders * n / alike)
+  grows r most is h =
+      let e : most + rest ≡ orders * n / alike = omega (arith, is, parts orders n alike some) in
+      fits_if r _ (rw e at h)

@@ -1,5 +1,5 @@
 -- Proofs. One turn of laying the strip of a number, in the loop's own terms.
-use Prim.Native.Nat.{ℕ, suc, ◌+◌, ◌-◌, ◌≤◌, ◌<◌}
+use Prim.Native.Nat.{ℕ, suc, ◌+◌, ◌-◌, ◌<◌}
 use mathlib.Core.Path.{◌≡◌, ◌∙◌}
 use mathlib.Core.List.{List, []}
 use native.Mathlib.Omega.{arith}
@@ -27,22 +27,7 @@ going_start counts strip left number ways a e l w b = record {
 pub going_end : (counts strip : List ℕ) (number : ℕ) (left : List ℕ) (ways rest n i : ℕ) → Going counts strip number left ways rest n i → i ≡ length strip → strip ≡ get_or (dictionary counts) number []
 going_end counts strip number left ways rest n i g e = laying_end counts strip number i (take (length counts) left) ways rest g.laying (e ∙ g.laying.long)
 
--- what a turn needs to choose the kind
-module _ (counts strip : List ℕ) (number : ℕ) (left : List ℕ) (ways rest n i : ℕ) (stock : IsStock counts) (g : Going counts strip number left ways rest n i) (l : i < length strip) where
-  pub all_left : sum (take (length counts) left) ≡ n
-  all_left = omega (arith, g.laying.some, g.more)
-
-  pub n_range : (0 < n) × (n ≤ 64)
-  n_range = (omega (arith, g.more, g.laying.long), omega (arith, g.more, stock.short))
-
--- and what it needs and does once the kind is chosen
-pub record Placed (counts strip : List ℕ) (number : ℕ) (left : List ℕ) (rest n i kind ahead own : ℕ) : Type 0 where
-  pub kind_few : kind < 16
-  pub n_some : 0 < n
-  pub some_left : 0 < get_or left kind 0
-  pub ahead_fits : ahead ≤ rest
-  pub next : Going counts (set strip i (kind + 1)) number (set left kind (get_or left kind 0 - 1)) own (rest - ahead) (n - 1) (i + 1)
-
+-- one block more, of the kind that was chosen
 module _ (counts strip : List ℕ) (number : ℕ) (left : List ℕ) (ways rest n i : ℕ) (stock : IsStock counts) (g : Going counts strip number left ways rest n i) (l : i < length strip)
     (kind ahead own : ℕ) (p : Picked (take (length counts) left) rest kind ahead own) where
   abbrev part : List ℕ
@@ -57,26 +42,15 @@ module _ (counts strip : List ℕ) (number : ℕ) (left : List ℕ) (ways rest n
   one : (c : ℕ) × (get_or part kind 0 ≡ suc c)
   one = has counts strip number i part ways rest g.laying kind ahead own p
 
-  some : 0 < n
-  some = (n_range counts strip number left ways rest n i stock g l).0
-
-  going_on : Going counts (set strip i (kind + 1)) number (set left kind (get_or left kind 0 - 1)) own (rest - ahead) (n - 1) (i + 1)
+  pub going_on : Going counts (set strip i (kind + 1)) number (set left kind (get_or left kind 0 - 1)) own (rest - ahead) (n - 1) (i + 1)
   going_on =
       let c = one.0 in
       let f : get_or left kind 0 - 1 ≡ c = omega (arith, at, one.1) in
-      let m : sum part ≡ suc (n - 1) = omega (arith, all_left counts strip number left ways rest n i stock g l, some) in
+      let some : 0 < n = omega (arith, g.more, g.laying.long) in
+      let m : sum part ≡ suc (n - 1) = omega (arith, g.laying.some, g.more, some) in
       let t : take (length counts) (set left kind c) ≡ set part kind c = take-set-lt (length counts) left kind c kind_in in
       rw f (record {
         array = length-set left kind c ∙ g.array;
         laying = rw t (laying_on counts strip number i part ways rest g.laying kind ahead own p (n - 1) m c one.1 (omega (arith, g.laying.long)));
         more = omega (arith, g.more, some);
       })
-
-  pub placed : Placed counts strip number left rest n i kind ahead own
-  placed = record {
-    kind_few = omega (arith, kind_in, stock.few);
-    n_some = some;
-    some_left = omega (arith, at, one.1);
-    ahead_fits = p.from;
-    next = going_on;
-  }

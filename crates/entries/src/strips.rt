@@ -19,31 +19,28 @@ fn counts_of(stock: &[u16]) -> [u64; 16]
     requires { length stock.now ≤ 16 }
     ensures { (length result ≡ 16) × (take (length stock.now) result ≡ stock.now) }
 {
-    let mut left = [0; 16];
-    let mut j = 0;
-    while j < stock.len() {
-        left[j] = stock[j] as u64;
-        j += 1;
+    let mut counts = [0; 16];
+    for (kind, count) in stock.iter().enumerate() {
+        counts[kind] = u64::from(*count);
     }
-    left
+    counts
 }
 
-// Which kind stands next in the order at the place `rest` of all orders of the n blocks left. They are `ways`, and each kind begins as large a share of
-// them as it has of the blocks.
-fn choose_kind(left: &[u64; 16], kinds: usize, n: u64, ways: u64, rest: u64) -> Choice
-    requires { (length left.now ≡ 16) × (kinds ≤ 16) × (sum (take kinds left.now) ≡ n) × (0 < n) × (n ≤ 64) × (ways ≡ total (take kinds left.now)) × (rest < ways) }
-    ensures { Picked (take kinds left.now) rest result.kind result.ahead result.own }
+// Which kind stands next in the order at the place `rest` of all orders of the n blocks left, so many of each kind. They are `ways`, and each kind begins as
+// large a share of them as it has of the blocks. The shares of all kinds are all the orders, so the place is in one of them.
+fn choose_kind(left: &[u64], n: u64, ways: u64, rest: u64) -> Choice
+    requires { (length left.now ≤ 16) × (sum left.now ≡ n) × (0 < n) × (n ≤ 64) × (ways ≡ total left.now) × (rest < ways) }
+    ensures { Picked left.now rest result.kind result.ahead result.own }
 {
-    let mut kind: usize = 0;
     let mut ahead: u64 = 0;
-    loop {
-        let own = scale(ways, left[kind], n);
+    for (kind, count) in left.iter().enumerate() {
+        let own = scale(ways, *count, n);
         if rest - ahead < own {
             return Choice { kind, ahead, own };
         }
         ahead += own;
-        kind += 1;
     }
+    unreachable!()
 }
 
 // The strip of a number of the dictionary, one block at a time. strips is how many the dictionary has.
@@ -55,16 +52,14 @@ pub fn strip_at(stock: &[u16], strips: u64, number: u64, strip: &mut [u8])
     let mut ways = strips;
     let mut rest = number;
     let mut n = strip.len() as u64;
-    let mut i = 0;
-    while i < strip.len() {
-        let c = choose_kind(&left, stock.len(), n, ways, rest);
-        let kind = c.kind;
-        rest -= c.ahead;
-        ways = c.own;
+    for place in strip.iter_mut() {
+        let choice = choose_kind(&left[..stock.len()], n, ways, rest);
+        let kind = choice.kind;
+        rest -= choice.ahead;
+        ways = choice.own;
         left[kind] -= 1;
         let block = kind + 1;
-        strip[i] = block as u8;
+        *place = block as u8;
         n -= 1;
-        i += 1;
     }
 }

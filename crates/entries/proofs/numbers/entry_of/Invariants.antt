@@ -3,7 +3,4 @@ use Rattle.entries.proofs.Tails.{Tail}
 use Rattle.entries.proofs.numbers.entry_of.Given as goal
 
 abbrev pub invariant-loop-i : goal.invariant-loop-i
-invariant-loop-i l = Tail l.stock l.strip l.seen l.orders l.number l.n l.i
-
-abbrev pub decreases-loop-i : goal.decreases-loop-i
-decreases-loop-i l = l.i
+invariant-loop-i l = Tail l.stock l.strip l.seen l.orders l.number l.i
