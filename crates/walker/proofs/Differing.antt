@@ -9,14 +9,14 @@ use borrow.Author.Tests.{not-true, not-false}
 use lib.ListN.{length, get_or, drop, set, drop_of_length-le}
 use lib.Seq.{drop-cons}
 use Rattle.rules.specs.Stock.{IsStock, IsStrip}
-use Rattle.rules.specs.Refusals.{No, fine, at_place, first_of, check_nos}
-use Rattle.rules.proofs.Refusals.{at_place_lem, refused_first, passed_first, passed_both, end_is, row_is, both_is, place_is, unless_passed}
+use Rattle.rules.specs.Refusals.{fine, at_place, first_of, check_nos}
+use Rattle.rules.proofs.Refusals.{at_place_lem, passed_first, passed_both, end_is, row_is, both_is, place_is}
 use Rattle.rules.proofs.Checks.{at_passed, passed_head, accepted_both, accepted_both_back, check_to_six}
-use Rattle.stock.specs.Refused.{refusal}
-use Rattle.stock.proofs.Tested.{passed, stopped}
+use Rattle.std.specs.Prelude.{Some, None}
+use Rattle.stock.specs.Places.{found_at}
+use Rattle.stock.proofs.Places.{is_found, is_nowhere}
+use Rattle.stock.proofs.Told.{passed_next}
 use Rattle.walker.specs.declared.Walker.{Walker}
-use Rattle.walker.specs.declared.open.Opened.{Opened}
-use Rattle.walker.specs.Answers.{open_answer}
 use Rattle.walker.specs.Walkers.{walker_for, alike, differing_from, walker_no, walker_nos}
 use Rattle.walker.proofs.ByKind.{walker_to_lem, to_long}
 
@@ -137,35 +137,18 @@ never_nine counts s w =
     both_is NotNine none (check_nos counts s) (walker_no counts s w ∷ []) (λ e. omega (arith, check_to_six counts s))
     (row_is NotNine none (walker_no counts s w) [] (ten_not_nine counts s w) (end_is NotNine none))
 
--- ---- 10, after 1 to 6, as a check finds it
+-- ---- 10, after 1 to 6, as a check finds it: the stock and the strip are accepted, and `right` is the walker of the strip
 
--- o is what Open answers, and p the smallest kind at which its walker and w differ
-module _ (counts s : List ℕ) (w : Walker) (o : Opened) (is : o ≡ open_answer counts s) where
-  abbrev nos : List No
-  nos = check_nos counts s
+module _ (counts s : List ℕ) (w : Walker) (h : fine ≡ first_of (check_nos counts s)) (right : Walker) (is : right ≡ walker_for counts s) where
+  ten : first_of (at_place 10 (differing_from 1 w.back right.back) ∷ []) ≡ first_of (walker_no counts s w ∷ [])
+  unfolding walker_no
+  ten = rw is
 
-  opened_no : o.refusal ≡ refusal (first_of nos)
-  unfolding open_answer
-  opened_no = ap (λ (o : Opened). o.refusal) is
+  pub walker_wrong : (kind : ℕ) → Some kind ≡ found_at (differing_from 1 w.back right.back) → (10, kind) ≡ first_of (walker_nos counts s w)
+  walker_wrong kind f =
+      let e = is_found _ kind f in
+      passed_next (check_nos counts s) (walker_no counts s w ∷ []) h (10, kind) (ap (λ (p : ℕ). (10, p)) e.0 ∙ sym (at_place_lem 9 [] _ (λ z. e.1 (e.0 ∙ z))) ∙ ten)
 
-  pub open_refused : (o.refusal.no ≡ 0 → ⊥) → o.refusal ≡ refusal (first_of (nos ++ (walker_no counts s w ∷ [])))
-  open_refused h = opened_no ∙ ap refusal (sym (refused_first nos _ (stopped nos _ opened_no h)))
-
-  module _ (h : o.refusal.no ≡ 0) (p : ℕ) (p_is : p ≡ differing_from 1 w.back o.walker.back) where
-    none_yet : (first_of nos).0 ≡ 0
-    none_yet = passed nos _ opened_no h
-
-    opened_walker : o.walker ≡ walker_for counts s
-    unfolding open_answer
-    opened_walker = ap (λ (o : Opened). o.walker) is ∙ unless_passed _ _ (first_of nos) none_yet
-
-    next : first_of (at_place 10 p ∷ []) ≡ first_of (nos ++ (walker_no counts s w ∷ []))
-    unfolding walker_no
-    next = sym (passed_first nos (at_place 10 p ∷ []) none_yet) ∙ rw (p_is, opened_walker)
-
-    pub walker_wrong : (p ≡ 0 → ⊥) → (10, p) ≡ first_of (nos ++ (walker_no counts s w ∷ []))
-    walker_wrong e = sym (at_place_lem 9 [] p e) ∙ next
-
-    pub walker_fine : p ≡ 0 → fine ≡ first_of (nos ++ (walker_no counts s w ∷ []))
-    unfolding first_of
-    walker_fine e = rw e at next
+  pub walker_fine : None ≡ found_at (differing_from 1 w.back right.back) → fine ≡ first_of (walker_nos counts s w)
+  unfolding first_of
+  walker_fine f = passed_next (check_nos counts s) (walker_no counts s w ∷ []) h fine (rw (is_nowhere _ f) at ten)

@@ -1,5 +1,5 @@
 -- Proofs. A walker with the directions of the kinds above one turned; and that the walker after a move is the walker before it, so turned.
-use Prim.Native.Nat.{ℕ, suc, ◌-◌, ◌≤◌, ◌<◌}
+use Prim.Native.Nat.{ℕ, suc, ◌+◌, ◌-◌, ◌≤◌, ◌<◌}
 use mathlib.Core.Path.{◌≡◌, refl, sym, ap, ◌∙◌}
 use mathlib.Core.Bool.{Bool, false, not, ◌&&◌}
 use mathlib.Core.Option.{Option}
@@ -8,7 +8,9 @@ use native.Mathlib.Decide.{dec_lt}
 use native.Mathlib.Omega.{arith}
 use borrow.Author.Tests.{lt-ltb, le-ltb, le-leb, lt-leb}
 use lib.Dec.{ltb, leb}
-use lib.ListN.{length, get_or, set}
+use lib.ListN.{length, get_or, take, drop, length-drop}
+use borrow.Rule.Slice.PartMut.{put_mid, same_len_mid}
+use Rattle.std.proofs.lemmas.List.{length-take-le, get_or-take, get_or-drop, get_or_append_left, get_or-append_right}
 use Rattle.rules.specs.Stock.{IsStrip}
 use Rattle.rules.specs.Book.{backward}
 use Rattle.rules.proofs.Listed.{flip}
@@ -17,7 +19,7 @@ use Rattle.rules.proofs.Directions.{kinds_above_turn}
 use Rattle.walker.specs.declared.Walker.{Walker}
 use Rattle.walker.specs.Walkers.{walker_for}
 use Rattle.walker.specs.Turned.{turned_at, above_turned}
-use Rattle.walker.proofs.ByKind.{at_kind, same_walker, stored, walker_to, walker_to_lem, to_long, to_at}
+use Rattle.walker.proofs.ByKind.{at_kind, same_walker, walker_to, walker_to_lem, to_long, to_at}
 
 module _ (kind last : ℕ) (w : Walker) where
   long : length (above_turned kind last w).back ≡ 16
@@ -40,32 +42,39 @@ module _ (kind last : ℕ) (w : Walker) where
       | no l ↦ rw (lt-leb (suc i) last (omega arith)) at turned_at_lem
     ]
 
--- ---- a loop that turns them, from the last one down
+-- ---- a loop that turns them, in their part of the walker
 
-module _ (last : ℕ) (w : Walker) where
-  -- at first none is turned
-  pub turned_none : length w.back ≡ 16 → w ≡ above_turned last last w
-  turned_none l = same_walker w (above_turned last last w) l (long last last w) (λ i h. sym (stays last last w i h (λ m. m)))
+-- no turned direction stands outside the part
+module _ (kind last : ℕ) (w : Walker) (l : kind ≤ last) (m : last ≤ 16) (k : length w.back ≡ 16) (part : List Bool) (lp : length part ≡ last - kind)
+    (h : (i : ℕ) → i < last - kind → get_or part i false ≡ not (get_or (take (last - kind) (drop kind w.back)) i false)) where
+  abbrev front : List Bool
+  front = take kind w.back
 
-  -- kind j + 1 too
-  module _ (j above : ℕ) (one : suc j ≡ above) (h : above ≤ last) (l : last ≤ 16) (v : Walker) (is : v ≡ above_turned above last w) where
-    pub turned_one : record { back = set v.back j (not (get_or v.back j false)) } ≡ above_turned j last w
-    turned_one = rw (is, ← one) (stored (above_turned (suc j) last w) (above_turned j last w) (long (suc j) last w) (long j last w) j _ (omega arith) new old)
-      where
-        new : not (get_or (above_turned (suc j) last w).back j false) ≡ get_or (above_turned j last w).back j false
-        new = ap not (stays (suc j) last w j (omega arith) (λ m. omega arith)) ∙ sym (turned j last w j (omega arith) (omega arith) (omega arith))
+  front_long : length front ≡ kind
+  front_long = length-take-le kind w.back (omega arith)
 
-        same : (i : ℕ) → (i ≡ j → ⊥) → ltb (suc j) (suc i) ≡ ltb j (suc i)
-        same i e = elim (dec_lt j i) [
-          | yes m ↦ lt-ltb (suc j) (suc i) (omega arith) ∙ sym (lt-ltb j (suc i) (omega arith))
-          | no m ↦ le-ltb (suc j) (suc i) (omega arith) ∙ sym (le-ltb j (suc i) (omega arith))
+  inside : (i : ℕ) → i < last - kind → get_or part i false ≡ not (get_or w.back (kind + i) false)
+  inside i n = h i n ∙ ap not (get_or-take (last - kind) (drop kind w.back) i false n ∙ get_or-drop kind w.back i false)
+
+  at_part : (i : ℕ) → i < 16 → get_or (put_mid kind (last - kind) w.back part) i false ≡ get_or (above_turned kind last w).back i false
+  at_part i n = elim (dec_lt i kind) [
+    | yes b ↦ get_or_append_left front _ false i (omega (arith, front_long)) ∙ get_or-take kind w.back i false b ∙ sym (stays kind last w i n (λ c. b))
+    | no b ↦
+        let e : kind + (i - kind) ≡ i = omega arith in
+        get_or-append_right front _ kind i false front_long (omega arith)
+        ∙ elim (dec_lt i last) [
+          | yes c ↦ get_or_append_left part _ false (i - kind) (omega arith) ∙ inside (i - kind) (omega arith) ∙ rw e (sym (turned kind last w i n (omega arith) c))
+          | no c ↦
+              let f : kind + (last - kind + (i - kind - (last - kind))) ≡ i = omega arith in
+              get_or-append_right part _ (last - kind) (i - kind) false lp (omega arith)
+              ∙ get_or-drop (last - kind) (drop kind w.back) (i - kind - (last - kind)) false
+              ∙ get_or-drop kind w.back (last - kind + (i - kind - (last - kind))) false
+              ∙ rw f (sym (stays kind last w i n (λ d. absurd (omega arith))))
         ]
+  ]
 
-        old : (i : ℕ) → i < 16 → (i ≡ j → ⊥) → get_or (above_turned (suc j) last w).back i false ≡ get_or (above_turned j last w).back i false
-        old i k e =
-            turned_at_lem (suc j) last w i k
-            ∙ ap (λ (b : Bool). flip (leb (suc i) last && b) (get_or w.back i false)) (same i e)
-            ∙ sym (turned_at_lem j last w i k)
+  pub turned_part : record { back = put_mid kind (last - kind) w.back part } ≡ above_turned kind last w
+  turned_part = same_walker _ _ (same_len_mid kind (last - kind) w.back part (lp ∙ sym (length-take-le (last - kind) (drop kind w.back) (omega (arith, length-drop kind w.back)))) ∙ k) (long kind last w) at_part
 
 -- ---- a move
 

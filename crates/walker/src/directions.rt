@@ -12,15 +12,13 @@ pub fn walker_of(stock: &[u16], strip: &[u8]) -> Walker
     requires { IsStock stock.now × IsStrip stock.now strip.now }
     ensures { result ≡ walker_for stock.now strip.now }
 {
-    let mut w = Walker { back: [false; 16] };
+    let mut w = Walker::FORWARD;
     let mut word = [0; 64];
     let mut odd = false;
-    let mut below: usize = 0;
-    let mut j: usize = 0;
-    while j < stock.len() {
+    let mut below = 0;
+    for j in 0..stock.len() {
         w.back[j] = odd;
-        j += 1;
-        let kind = j as u8;
+        let kind = (j + 1) as u8;
         let n = reduce(strip, kind, &mut word);
         let odd_index = odd_index_of(&word[..n], kind, below);
         odd = odd != odd_index;

@@ -12,3 +12,8 @@ pub mod turning;
 pub struct Walker {
     pub back: [bool; 16],
 }
+
+impl Walker {
+    // All directions forward.
+    pub const FORWARD: Walker = Walker { back: [false; 16] };
+}

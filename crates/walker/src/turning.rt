@@ -5,16 +5,12 @@ ghost use Rattle.walker.specs.Turned.{above_turned};
 use crate::Walker;
 
 // The directions of the kinds above a kind, up to the last of them, turned.
-pub fn turned_above(w: Walker, kind: usize, kinds: usize) -> Walker
+pub fn turned_above(mut w: Walker, kind: usize, kinds: usize) -> Walker
     requires { (kind ≤ kinds) × (kinds ≤ 16) }
     ensures { result ≡ above_turned kind kinds w }
 {
-    let mut v = w;
-    let mut j = kinds;
-    while kind < j {
-        j -= 1;
-        let b = v.back[j];
-        v.back[j] = !b;
+    for back in &mut w.back[kind..kinds] {
+        *back = !*back;
     }
-    v
+    w
 }

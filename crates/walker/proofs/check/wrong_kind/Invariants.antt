@@ -1,10 +1,6 @@
--- `walker::check::wrong_kind` meets its contract.
-use Prim.Native.Nat.{◌-◌}
+-- `walker::check::wrong_kind` meets its contract. The invariant: the kinds that are passed do not differ.
 use Rattle.walker.proofs.Differing.{Compared}
 use Rattle.walker.proofs.check.wrong_kind.Given as goal
 
-abbrev pub invariant-loop-i : goal.invariant-loop-i
-invariant-loop-i l = Compared l.one.back l.other.back l.i
-
-abbrev pub decreases-loop-i : goal.decreases-loop-i
-decreases-loop-i l = 16 - l.i
+abbrev pub invariant-loop-j : goal.invariant-loop-j
+invariant-loop-j l = Compared l.one.back l.other.back l.j
