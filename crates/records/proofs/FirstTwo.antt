@@ -4,10 +4,12 @@ use mathlib.Core.Path.{◌≡◌, refl, ap, ◌∙◌}
 use mathlib.Core.List.{List}
 use native.Mathlib.Omega.{arith}
 use lib.ListN.{length}
+use Rattle.std.specs.Prelude.{Result, Ok}
 use Rattle.rules.specs.Stock.{IsStock, IsStrip}
-use Rattle.rules.specs.Refusals.{No, first_of}
-use Rattle.stock.specs.Refused.{refusal}
-use Rattle.records.specs.declared.opening.Opening.{Opening}
+use Rattle.rules.specs.Refusals.{first_of}
+use Rattle.stock.specs.declared.refused.Refused.{Refused}
+use Rattle.stock.specs.Refused.{told}
+use Rattle.records.specs.declared.held.Opening.{Opening}
 use Rattle.records.specs.Records.{sheet_stock, strip_body, sheet_strip, padding_no, first_two_nos}
 use Rattle.records.specs.Opened.{stock_at, strip_at, rest_at, stock_at_nos, strip_at_nos, opening_nos, held_stock, held_strip, Opened}
 use Rattle.records.proofs.Beginning.{opening_stock, opening_strip, opening_body}
@@ -32,15 +34,15 @@ module _ (sheet : List ℕ) (none : (first_of (first_two_nos sheet)).0 ≡ 0) wh
   first_two_strip = opening_strip 0 sheet opened
 
 -- what is read of them
-module _ (sheet : List ℕ) (o : Opening) (r : Opened 0 sheet o) where
-  pub first_two_refused : o.refusal ≡ refusal (first_of (first_two_nos sheet))
-  first_two_refused = r.refused ∙ ap (λ (nos : List No). refusal (first_of nos)) (first_two_rows sheet)
+module _ (sheet : List ℕ) (r : Result Opening Refused) (h : Opened 0 sheet r) where
+  pub first_two_refused : told r ≡ first_of (first_two_nos sheet)
+  first_two_refused = h.refused ∙ ap first_of (first_two_rows sheet)
 
-  module _ (z : o.refusal.no ≡ 0) where
-    pub stock_held : held_stock o ≡ sheet_stock sheet
-    unfolding sheet_stock stock_at
-    stock_held = r.stock z
+module _ (sheet : List ℕ) (o : Opening) (h : Opened 0 sheet (Ok o)) where
+  pub stock_held : held_stock o ≡ sheet_stock sheet
+  unfolding sheet_stock stock_at
+  stock_held = h.stock
 
-    pub strip_held : held_strip o ≡ sheet_strip sheet
-    unfolding sheet_stock sheet_strip strip_body stock_at strip_at
-    strip_held = r.strip z
+  pub strip_held : held_strip o ≡ sheet_strip sheet
+  unfolding sheet_stock sheet_strip strip_body stock_at strip_at
+  strip_held = h.strip

@@ -1,11 +1,12 @@
 -- What the private functions promise of the records before the moves. No open call's contract cites it, so nothing here is to be believed.
-use Rattle.std.specs.Prelude.{ℕ, ◌+◌, ◌≤◌, ◌≡◌, not, List, [], ◌∷◌, ◌++◌, length, take, drop, replicate}
-use Rattle.rules.specs.Stock.{sum, IsStock, IsStrip}
+use Rattle.std.specs.Prelude.{ℕ, ◌+◌, ◌≡◌, not, List, [], ◌∷◌, ◌++◌, length, take, drop, replicate, Result, IfOk}
+use Rattle.rules.specs.Stock.{sum}
 use Rattle.rules.specs.Book.{same}
 use Rattle.rules.specs.Refusals.{No, when_at, first_of, stranger_no, amount_no, stock_nos}
 use Rattle.rules.specs.SoldOut.{used}
-use Rattle.stock.specs.Refused.{refusal}
-use Rattle.records.specs.declared.opening.Opening.{Opening}
+use Rattle.stock.specs.declared.refused.Refused.{Refused}
+use Rattle.stock.specs.Refused.{told}
+use Rattle.records.specs.declared.held.Opening.{Opening}
 use Rattle.records.specs.Records.{record_no}
 
 -- the stock of the record at a byte, and the strip of one for these counts
@@ -39,19 +40,10 @@ abbrev pub held_stock : Opening → List ℕ
 held_stock o = take o.kinds o.counts
 
 abbrev pub held_strip : Opening → List ℕ
-held_strip o = take o.blocks o.strip
+held_strip o = o.strip.now
 
--- what is read of both records: the refusal, and where there is none, the stock and the strip
-pub record Opened (at : ℕ) (sheet : List ℕ) (o : Opening) : Type 0 where
-  pub refused : o.refusal ≡ refusal (first_of (opening_nos at sheet))
-  pub kinds : o.kinds ≤ length o.counts
-  pub blocks : o.blocks ≤ length o.strip
-  pub stock : o.refusal.no ≡ 0 → held_stock o ≡ stock_at at sheet
-  pub strip : o.refusal.no ≡ 0 → held_strip o ≡ strip_at (stock_at at sheet) (at + 17) sheet
-
--- what is read can be followed: where there is no refusal, an accepted stock and a strip of it
-pub record Ready (o : Opening) : Type 0 where
-  pub kinds : o.kinds ≤ length o.counts
-  pub blocks : o.blocks ≤ length o.strip
-  pub stock : o.refusal.no ≡ 0 → IsStock (held_stock o)
-  pub strip : o.refusal.no ≡ 0 → IsStrip (held_stock o) (held_strip o)
+-- what is read of both records: the first refusal, or the stock and the strip
+pub record Opened (at : ℕ) (sheet : List ℕ) (r : Result Opening Refused) : Type 0 where
+  pub refused : told r ≡ first_of (opening_nos at sheet)
+  pub stock : IfOk r (λ o. held_stock o ≡ stock_at at sheet)
+  pub strip : IfOk r (λ o. held_strip o ≡ strip_at (stock_at at sheet) (at + 17) sheet)

@@ -2,30 +2,25 @@
 ghost use Rattle.std.specs.Prelude.{◌+◌, ◌≤◌, ◌≡◌, length, take, drop, replicate};
 ghost use Rattle.rules.specs.Book.{same};
 ghost use Rattle.rules.specs.SoldOut.{used};
-ghost use Rattle.stock.specs.Refused.{refusal};
+ghost use Rattle.stock.specs.Refused.{told};
 ghost use Rattle.records.specs.Records.{record_no};
 
 use std::array;
-use stock::Refusal;
+use stock::{Reason, Refused};
+
+// The kinds of the two records.
+pub const STOCK: u8 = 1;
+
+pub const STRIP: u8 = 2;
 
 // Refusal 11 where the record at a byte is not of this kind or its body is cut short.
-pub fn check_record(sheet: &[u8], at: usize, kind: u8, body: usize) -> Refusal
-    ensures { result ≡ refusal (record_no kind body at sheet.now) }
+pub fn check_record(sheet: &[u8], at: usize, kind: u8, body: usize) -> Result<(), Refused>
+    ensures { told result ≡ record_no kind body at sheet.now }
 {
-    let refused = Refusal {
-        no: 11,
-        place: at as u64,
-    };
-    if sheet.len() <= at {
-        return refused;
+    if sheet.len() <= at || sheet[at] != kind || sheet.len() - at <= body {
+        return Err(Reason::Record.at(at));
     }
-    if sheet[at] != kind {
-        return refused;
-    }
-    if sheet.len() - at <= body {
-        return refused;
-    }
-    Refusal { no: 0, place: 0 }
+    Ok(())
 }
 
 // The sixteen counts from a byte on.

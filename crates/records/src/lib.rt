@@ -2,4 +2,7 @@
 #![tactic(auto)]
 
 pub mod bodies;
+mod held;
 pub mod opening;
+
+pub use held::Opening;
