@@ -41,8 +41,11 @@ module _ {counts strip : List ℕ} {from j : ℕ} (s : Running counts strip from
         let e : length (take j counts) ≡ j = length-take-le j counts (omega arith) in
         rw (← append_assoc (take from strip) run _, take_at (take from strip ++ run) _ to long, take-suc counts j 0 h, runs_snoc 1 (take j counts) (get_or counts j 0), e, s.laid, run_is)
 
-    pub on : Running counts (put_mid from (to - from) strip run) to (j + 1)
-    on = rising.on s h (put_mid from (to - from) strip run) (same_len_mid from (to - from) strip run (ap length is ∙ length-replicate _ (j + 1))) next_laid
+    next_running : Running counts (put_mid from (to - from) strip run) to (j + 1)
+    next_running = rising.on s h (put_mid from (to - from) strip run) (same_len_mid from (to - from) strip run (ap length is ∙ length-replicate _ (j + 1))) next_laid
+
+  pub on : j < length counts → {n : ℕ} → n ≡ get_or counts j 0 → (run : List ℕ) → run ≡ replicate (length (take (from + n - from) (drop from strip))) (j + 1) → Running counts (put_mid from (from + n - from) strip run) (from + n) (j + 1)
+  on h e run is = rw e (next_running h run (rw e at is))
 
   pub end : length counts ≤ j → strip ≡ get_or (book counts) 0 []
   end h = rising.end s h ∙ ap (runs 1) (take_all (length counts) counts (omega arith)) ∙ sym (first_strip counts)

@@ -1,9 +1,10 @@
 // Count: how many strips the book of a stock has.
 ghost use Rattle.std.specs.Prelude.{◌≡◌};
-ghost use Rattle.counting.specs.Answers.{count_answer};
+ghost use Rattle.stock.specs.Refused.{answered};
+ghost use Rattle.counting.specs.Answers.{as_counted, count_answer};
 
 use crate::totals::{patterns_of, total_of};
-use stock::{Refusal, check_stock};
+use stock::{Reason, Refusal, Refused, check_stock};
 
 // What Count answers.
 #[repr(C)]
@@ -13,28 +14,27 @@ pub struct Counted {
     pub total: u64,
 }
 
+// T of a stock that is accepted and whose strips can be numbered.
+fn total(stock: &[u16]) -> Result<u64, Refused>
+    ensures { answered as_counted 0 result ≡ count_answer stock.now }
+{
+    check_stock(stock)?;
+    let strips = total_of(&patterns_of(stock), stock).ok_or(Reason::Many)?;
+    Ok(strips)
+}
+
 // The total T of a stock.
 pub fn count(stock: &[u16]) -> Counted
     ensures { result ≡ count_answer stock.now }
 {
-    let checked = check_stock(stock);
-    let no = checked.no;
-    if no != 0 {
-        return Counted {
-            refusal: checked,
+    match total(stock) {
+        Ok(strips) => Counted {
+            refusal: Refusal::NONE,
+            total: strips,
+        },
+        Err(refused) => Counted {
+            refusal: refused.into(),
             total: 0,
-        };
-    }
-    let patterns = patterns_of(stock);
-    let strips = total_of(&patterns, stock);
-    if strips == 0 {
-        return Counted {
-            refusal: Refusal { no: 7, place: 0 },
-            total: 0,
-        };
-    }
-    Counted {
-        refusal: Refusal { no: 0, place: 0 },
-        total: strips,
+        },
     }
 }

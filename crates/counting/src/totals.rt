@@ -2,14 +2,11 @@
 ghost use Rattle.std.specs.Prelude.{◌≡◌, [], ◌∷◌};
 ghost use Rattle.rules.specs.Stock.{total, IsStock};
 ghost use Rattle.rules.specs.Refusals.{first_of, unless, many_no, above_no};
-ghost use Rattle.stock.specs.Refused.{refusal};
+ghost use Rattle.stock.specs.Refused.{told};
 ghost use Rattle.counting.specs.Patterns.{ArePatterns};
 
 use choose::choose;
-use stock::Refusal;
-
-// The largest 64-bit number.
-const MOST: u64 = 18446744073709551615;
+use stock::{Reason, Refused};
 
 // C(N(j), N(j-1)) for each kind j of the stock, kind 1 first. A call works them out once and lends them on.
 pub fn patterns_of(stock: &[u16]) -> [u64; 16]
@@ -18,44 +15,34 @@ pub fn patterns_of(stock: &[u16]) -> [u64; 16]
 {
     let mut patterns = [0; 16];
     let mut n: usize = 0;
-    let mut j: usize = 0;
-    while j < stock.len() {
+    for (j, count) in stock.iter().enumerate() {
         let below = n;
-        n += stock[j] as usize;
+        n += usize::from(*count);
         patterns[j] = choose(n, below);
-        j += 1;
     }
     patterns
 }
 
-// T, or 0 where it is 2^64 or more, which is found before a product wraps.
-pub fn total_of(patterns: &[u64; 16], stock: &[u16]) -> u64
+// T, where it is below 2^64; that it is more is found before a product wraps.
+pub fn total_of(patterns: &[u64; 16], stock: &[u16]) -> Option<u64>
     requires { ArePatterns stock.now patterns.now × IsStock stock.now }
-    ensures { result ≡ unless (many_no stock.now) 0 (total stock.now) }
+    ensures { result ≡ unless (many_no stock.now) None (Some (total stock.now)) }
 {
     let mut strips: u64 = 1;
-    let mut j: usize = 0;
-    while j < stock.len() {
-        let many = patterns[j];
-        j += 1;
-        if MOST / many < strips {
-            return 0;
-        }
-        strips = strips * many;
+    for many in &patterns[..stock.len()] {
+        strips = strips.checked_mul(*many)?;
     }
-    strips
+    Some(strips)
 }
 
-// The first refusal of a number: 7, then 8. strips is T of the stock, which is not looked at itself, or 0 where T is 2^64 or more.
-pub fn check_number(stock: &[u16], strips: u64, number: u64) -> Refusal
-    requires { strips ≡ unless (many_no stock.now) 0 (total stock.now) }
-    ensures { result ≡ refusal (first_of (many_no stock.now ∷ above_no stock.now number ∷ [])) }
+// The first refusal of a number: 7, then 8. strips is T of the stock, which is not looked at itself, where T is below 2^64.
+pub fn check_number(stock: &[u16], strips: Option<u64>, number: u64) -> Result<(), Refused>
+    requires { strips ≡ unless (many_no stock.now) None (Some (total stock.now)) }
+    ensures { told result ≡ first_of (many_no stock.now ∷ above_no stock.now number ∷ []) }
 {
-    if strips == 0 {
-        return Refusal { no: 7, place: 0 };
-    }
+    let strips = strips.ok_or(Reason::Many)?;
     if strips <= number {
-        return Refusal { no: 8, place: 0 };
+        return Err(Reason::Above.at(0));
     }
-    Refusal { no: 0, place: 0 }
+    Ok(())
 }

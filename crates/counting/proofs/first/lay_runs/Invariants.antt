@@ -1,11 +1,6 @@
 -- `counting::first::lay_runs` meets its contract.
-use Prim.Native.Nat.{◌-◌}
-use lib.ListN.{length}
 use Rattle.counting.proofs.Runs.{Running}
 use Rattle.counting.proofs.first.lay_runs.Given as goal
 
 abbrev pub invariant-loop-j : goal.invariant-loop-j
 invariant-loop-j l = Running l.stock l.strip l.from l.j
-
-abbrev pub decreases-loop-j : goal.decreases-loop-j
-decreases-loop-j l = length l.stock - l.j

@@ -1,11 +1,6 @@
 -- `counting::totals::patterns_of` meets its contract.
-use Prim.Native.Nat.{◌-◌}
-use lib.ListN.{length}
 use Rattle.counting.proofs.Product.{Listing}
 use Rattle.counting.proofs.totals.patterns_of.Given as goal
 
 abbrev pub invariant-loop-j : goal.invariant-loop-j
 invariant-loop-j l = Listing l.stock l.patterns l.n l.j
-
-abbrev pub decreases-loop-j : goal.decreases-loop-j
-decreases-loop-j l = length l.stock - l.j
