@@ -1,139 +1,90 @@
 // A whole book compared with what the calls answer.
-use crate::cut_counts::compare_cuts;
 use crate::filed::compare_dictionary;
 use crate::hung::compare_hung;
 use crate::orders::compare_orders;
 use crate::pairs::compare_pair;
 use crate::replays::compare_few;
-use crate::rows::{directions_at, last, strip_at};
-use crate::runs::{make_listed, run_agrees};
+use crate::rows::Book;
+use crate::runs::compare_runs;
 use crate::search::compare_apart;
-use crate::single::{count_agrees, first_agrees, number_agrees, open_agrees, strip_agrees};
+use crate::single::{
+    count_agrees, cuts_agree, first_agrees, number_agrees, open_agrees, strip_agrees,
+};
 use crate::spoiled::compare_sheets;
-use crate::tally;
-use crate::tally::{Tally, note};
+use crate::tally::{Call, Tally};
 use crate::walk_moves::move_agrees;
 use crate::ways::compare_way;
 
 // The strip of a number by itself.
-fn compare_strip(tally: &mut Tally, stock: &[u16], book: &[u8], i: usize, work: &mut [u8]) {
-    let blocks = strip_at(book, i, work.len());
-    note(tally, tally::NUMBER, number_agrees(stock, blocks, i));
-    note(tally, tally::STRIP, strip_agrees(stock, blocks, i, work));
-    note(
-        tally,
-        tally::OPEN,
-        open_agrees(stock, blocks, directions_at(book, i)),
-    );
+fn compare_strip(tally: &mut Tally, book: &Book, i: usize) {
+    tally.note(Call::Number, number_agrees(book, i));
+    tally.note(Call::Cuts, cuts_agree(book, i));
+    tally.note(Call::Strip, strip_agrees(book, i));
+    tally.note(Call::Open, open_agrees(book, i));
 }
 
 // The moves from the strip of a number.
-fn compare_moves(tally: &mut Tally, stock: &[u16], book: &[u8], i: usize, work: &mut [u8]) {
-    note(
-        tally,
-        tally::WALK_ON,
-        move_agrees(stock, book, i, false, work),
-    );
-    note(
-        tally,
-        tally::WALK_BACK,
-        move_agrees(stock, book, i, true, work),
-    );
+fn compare_moves(tally: &mut Tally, book: &Book, i: usize) {
+    tally.note(Call::WalkOn, move_agrees(book, i, false));
+    tally.note(Call::WalkBack, move_agrees(book, i, true));
 }
 
 // The strip of a number with the last strip, and with the one on from it where there is one.
-fn compare_pairs(tally: &mut Tally, stock: &[u16], book: &[u8], i: usize, n: usize) {
-    let end = last(book);
-    compare_pair(tally, stock, book, n, i, end);
-    compare_pair(tally, stock, book, n, end, i);
-    if i < end {
-        compare_pair(tally, stock, book, n, i, i + 1);
-        compare_pair(tally, stock, book, n, i + 1, i);
+fn compare_pairs(tally: &mut Tally, book: &Book, i: usize) {
+    let end = book.last();
+    compare_pair(tally, book, i, end);
+    compare_pair(tally, book, end, i);
+    if let Some(next) = book.beside(i, false) {
+        compare_pair(tally, book, i, next);
+        compare_pair(tally, book, next, i);
     }
 }
 
 // The strip of a number with every strip.
-fn compare_all_pairs(tally: &mut Tally, stock: &[u16], book: &[u8], i: usize, n: usize) {
-    let strips = book.len() / 8;
-    let mut j = 0;
-    while j < strips {
-        compare_pair(tally, stock, book, n, i, j);
-        j += 1;
+fn compare_all_pairs(tally: &mut Tally, book: &Book, i: usize) {
+    for j in 0..book.rows.len() {
+        compare_pair(tally, book, i, j);
     }
 }
 
-// The pairs and the sheets of the strip of a number, for stocks of up to 4 blocks.
-fn compare_small(tally: &mut Tally, stock: &[u16], book: &[u8], i: usize, n: usize) {
-    if n <= 4 {
-        compare_all_pairs(tally, stock, book, i, n);
-        compare_sheets(tally, stock, book, i, n);
-        compare_orders(tally, stock, book, i, n);
+// The pairs, the sheets and the lists of exchanges of the strip of a number, for stocks of up to 4 blocks.
+fn compare_small(tally: &mut Tally, book: &Book, i: usize) {
+    if book.blocks <= 4 {
+        compare_all_pairs(tally, book, i);
+        compare_sheets(tally, book, i);
+        compare_orders(tally, book, i);
+        compare_few(tally, book, i);
     }
 }
 
 // All that is compared of the strip of a number, but for the dictionary.
-fn compare_number(tally: &mut Tally, stock: &[u16], book: &[u8], i: usize, work: &mut [u8]) {
-    let n = work.len();
-    compare_strip(tally, stock, book, i, work);
-    compare_moves(tally, stock, book, i, work);
-    compare_pairs(tally, stock, book, i, n);
-    compare_small(tally, stock, book, i, n);
-    compare_hung(tally, stock, book, i, work);
+fn compare_number(tally: &mut Tally, book: &Book, i: usize) {
+    compare_strip(tally, book, i);
+    compare_moves(tally, book, i);
+    compare_pairs(tally, book, i);
+    compare_small(tally, book, i);
+    compare_hung(tally, book, i);
 }
 
-fn compare_strips(tally: &mut Tally, stock: &[u16], book: &[u8], work: &mut [u8]) {
-    let strips = book.len() / 8;
-    let mut i = 0;
-    while i < strips {
-        compare_number(tally, stock, book, i, work);
-        compare_few(tally, stock, book, i, work);
-        i += 1;
-    }
-}
-
-// Run on or back with the room of a lent list, and its moves one by one.
-fn compare_run(
-    tally: &mut Tally,
-    stock: &[u16],
-    book: &[u8],
-    work: &mut [u8],
-    back: bool,
-    list: &mut [u8],
-) {
-    note(tally, tally::RUN, run_agrees(stock, book, work, back, list));
-    make_listed(tally, book, work, back, list);
-}
-
-// Run with room for every move of the book, and with room for half of them, since a move takes two bytes.
-fn compare_runs(tally: &mut Tally, stock: &[u16], book: &[u8], work: &mut [u8], back: bool) {
-    let mut list: [u8; 10080] = [0; 10080];
-    compare_run(tally, stock, book, work, back, &mut list);
-    let moves = last(book);
-    if moves <= 10080 {
-        compare_run(tally, stock, book, work, back, &mut list[0..moves]);
+fn compare_strips(tally: &mut Tally, book: &Book) {
+    for i in 0..book.rows.len() {
+        compare_number(tally, book, i);
     }
 }
 
 // The whole book, on or back: by Run, and by replaying its moves.
-fn compare_through(tally: &mut Tally, stock: &[u16], book: &[u8], work: &mut [u8], back: bool) {
-    compare_runs(tally, stock, book, work, back);
-    compare_way(tally, stock, book, work, back);
+fn compare_through(tally: &mut Tally, book: &Book, back: bool) {
+    compare_runs(tally, book, back);
+    compare_way(tally, book, back);
 }
 
-// The whole book, both ways.
-fn compare_both_ways(tally: &mut Tally, stock: &[u16], book: &[u8], work: &mut [u8]) {
-    compare_through(tally, stock, book, work, false);
-    compare_through(tally, stock, book, work, true);
-}
-
-// The book of a stock and the cuts of its strips, with a strip to work on.
-pub fn compare_book(tally: &mut Tally, stock: &[u16], book: &[u8], cuts: &[u8], work: &mut [u8]) {
-    let first = strip_at(book, 0, work.len());
-    note(tally, tally::COUNT, count_agrees(stock, book.len() / 8));
-    note(tally, tally::FIRST, first_agrees(stock, first, work));
-    compare_both_ways(tally, stock, book, work);
-    compare_strips(tally, stock, book, work);
-    compare_cuts(tally, stock, book, cuts, work.len());
-    compare_dictionary(tally, stock, book, work);
-    compare_apart(tally, stock, book, work);
+// The book of a stock.
+pub fn compare_book(tally: &mut Tally, book: &Book) {
+    tally.note(Call::Count, count_agrees(book));
+    tally.note(Call::First, first_agrees(book));
+    compare_through(tally, book, false);
+    compare_through(tally, book, true);
+    compare_strips(tally, book);
+    compare_dictionary(tally, book);
+    compare_apart(tally, book);
 }

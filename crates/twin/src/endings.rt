@@ -1,5 +1,5 @@
-// How a sheet ends behind its first records, rightly or wrongly, and what is to come of it then.
-use crate::editions::{Page, Spot, on, put_byte, put_stride, with_stride};
+// How a sheet ends behind its first records, rightly or wrongly, and what is to come of it then: so many moves in all, or a refusal.
+use crate::editions::Page;
 use stock::Refusal;
 
 // Where the records before an ending lead: the strip's number, how many moves are left from there, how many were made, and the places of the next one;
@@ -14,207 +14,138 @@ pub struct Stand {
     pub numbered: bool,
 }
 
-// A sheet on a page: its bytes and where its first stride stands, 0 where there is none; and what is to come of it.
-#[derive(Clone, Copy)]
-pub struct Case {
-    pub length: usize,
-    pub stride: usize,
-    pub refusal: Refusal,
-    pub moves: usize,
+pub type Due = Result<usize, Refusal>;
+
+// A refusal is placed at the first byte of an ending, or at the one behind where an end stands there.
+fn refused(no: u8, at: usize, kind: u8) -> Refusal {
+    let place = if kind == 4 { at.saturating_add(1) } else { at };
+    Refusal {
+        no,
+        place: place as u64,
+    }
 }
 
-// An ending of up to four bytes, and the number of its refusal.
-#[derive(Clone, Copy)]
-struct Ending {
-    bytes: [u8; 4],
-    length: usize,
-    no: u8,
-}
-
-fn few(bytes: [u8; 4], length: usize, no: u8) -> Ending {
-    Ending { bytes, length, no }
+// An ending of few bytes, and the number of its refusal.
+fn put_few(page: &mut Page, made: usize, bytes: &[u8], no: Option<u8>) -> Due {
+    let at = page.end;
+    let kind = bytes.first().copied().unwrap_or(0);
+    page.put(bytes);
+    match no {
+        Some(no) => Err(refused(no, at, kind)),
+        None if kind == 3 => Ok(made.saturating_add(1)),
+        None => Ok(made),
+    }
 }
 
 // The end, alone or with a byte behind it, nothing at all, and records that no sheet has there.
-fn without_move(which: usize) -> Ending {
+fn put_without_move(page: &mut Page, made: usize, which: usize) -> Due {
     match which {
-        0 => few([4, 0, 0, 0], 1, 0),
-        1 => few([0, 0, 0, 0], 0, 11),
-        2 => few([4, 4, 0, 0], 2, 11),
-        3 => few([0, 4, 0, 0], 2, 11),
-        4 => few([1, 4, 0, 0], 2, 11),
-        5 => few([2, 4, 0, 0], 2, 11),
-        6 => few([6, 4, 0, 0], 2, 11),
-        _ => few([255, 4, 0, 0], 2, 11),
+        0 => put_few(page, made, &[4], None),
+        1 => put_few(page, made, &[], Some(11)),
+        2 => put_few(page, made, &[4, 4], Some(11)),
+        3 => put_few(page, made, &[0, 4], Some(11)),
+        4 => put_few(page, made, &[1, 4], Some(11)),
+        5 => put_few(page, made, &[2, 4], Some(11)),
+        6 => put_few(page, made, &[6, 4], Some(11)),
+        _ => put_few(page, made, &[255, 4], Some(11)),
     }
 }
 
 // 12 where no move is left.
-fn next_no(left: usize) -> u8 {
-    if left == 0 {
-        return 12;
-    }
-    0
+fn next_no(left: usize) -> Option<u8> {
+    if left == 0 { Some(12) } else { None }
 }
 
 // A move that is cut short, that is not the next one, or that is, where one is left.
-fn with_move(which: usize, stand: Stand) -> Ending {
+fn put_with_move(page: &mut Page, stand: Stand, which: usize) -> Due {
+    let made = stand.made;
     let low = stand.low;
     let high = stand.high;
-    let other = std::num::wrapping_add_u8(high, 1);
     match which {
-        8 => few([3, 0, 0, 0], 1, 11),
-        9 => few([3, low, 0, 0], 2, 11),
-        10 => few([3, high, low, 4], 4, 12),
-        11 => few([3, low, low, 4], 4, 12),
-        12 => few([3, low, other, 4], 4, 12),
-        _ => few([3, low, high, 4], 4, next_no(stand.left)),
+        0 => put_few(page, made, &[3], Some(11)),
+        1 => put_few(page, made, &[3, low], Some(11)),
+        2 => put_few(page, made, &[3, high, low, 4], Some(12)),
+        3 => put_few(page, made, &[3, low, low, 4], Some(12)),
+        4 => put_few(page, made, &[3, low, high.wrapping_add(1), 4], Some(12)),
+        _ => put_few(page, made, &[3, low, high, 4], next_no(stand.left)),
     }
 }
 
-// The place of a refusal at a byte: that byte, or the one behind where an end stands there.
-fn place_of(at: usize, kind: u8) -> u64 {
-    if kind == 4 {
-        return on(at, 1) as u64;
-    }
-    at as u64
-}
-
-// What is to come of a record at a byte: a refusal, or so many moves in all.
-fn case_of(length: usize, stride: usize, refusal: Refusal, moves: usize) -> Case {
-    let no = refusal.no;
-    if no != 0 {
-        return Case {
-            length,
-            stride,
-            refusal,
-            moves: 0,
-        };
-    }
-    Case {
-        length,
-        stride,
-        refusal: Refusal { no: 0, place: 0 },
-        moves,
-    }
-}
-
-// The moves that have been made with a record.
-fn moves_with(made: usize, kind: u8) -> usize {
-    if kind == 3 {
-        return on(made, 1);
-    }
-    made
-}
-
-// The sheet with an ending of few bytes.
-fn put_few(page: &mut Page, spot: Spot, made: usize, ending: Ending) -> Case {
-    let at = spot.at;
-    let bytes = ending.bytes;
-    let kind = bytes[0];
-    put_byte(page, at, kind);
-    put_byte(page, on(at, 1), bytes[1]);
-    put_byte(page, on(at, 2), bytes[2]);
-    put_byte(page, on(at, 3), bytes[3]);
-    let refusal = Refusal {
-        no: ending.no,
-        place: place_of(at, kind),
-    };
-    case_of(
-        on(at, ending.length),
-        spot.stride,
-        refusal,
-        moves_with(made, kind),
-    )
-}
-
-// The sheet with a stride whose body is cut short.
-fn put_cut(page: &mut Page, spot: Spot, body: usize) -> Case {
-    let at = spot.at;
-    let end = put_stride(page, at, 2);
-    put_byte(page, end, 4);
-    let refusal = Refusal {
-        no: 11,
-        place: at as u64,
-    };
-    case_of(on(at, on(1, body)), with_stride(spot), refusal, 0)
+// A stride whose body is cut short.
+fn put_cut(page: &mut Page, body: usize) -> Due {
+    let at = page.end;
+    page.put_stride(2);
+    page.end = at.saturating_add(1).saturating_add(body);
+    Err(refused(11, at, 5))
 }
 
 // What a stride meets: 17, then 7, then 12.
-fn stride_no(number: u64, stand: Stand) -> u8 {
-    if number < 2 {
-        return 17;
+fn stride_no(stand: Stand, moves: u64) -> Option<u8> {
+    if moves < 2 {
+        return Some(17);
     }
     if !stand.numbered {
-        return 7;
+        return Some(7);
     }
-    if (stand.left as u64) < number {
-        return 12;
+    if (stand.left as u64) < moves {
+        return Some(12);
     }
-    0
+    None
 }
 
-// The sheet with a stride of this number, and the end.
-fn put_strided(page: &mut Page, spot: Spot, stand: Stand, number: u64) -> Case {
-    let at = spot.at;
-    let end = put_stride(page, at, number);
-    put_byte(page, end, 4);
-    let refusal = Refusal {
-        no: stride_no(number, stand),
-        place: at as u64,
-    };
-    let moves = on(stand.made, number as usize);
-    case_of(on(end, 1), with_stride(spot), refusal, moves)
+// A stride of so many moves, and the end.
+fn put_strided(page: &mut Page, stand: Stand, moves: u64) -> Due {
+    let at = page.end;
+    page.put_stride(moves);
+    page.put_end();
+    match stride_no(stand, moves) {
+        Some(no) => Err(refused(no, at, 5)),
+        None => Ok(stand.made.saturating_add(moves as usize)),
+    }
 }
 
 // 2^64 minus a number: so many moves on would lead around to strip 0, or to a total of 0.
 fn around(number: usize) -> u64 {
-    std::num::wrapping_sub_u64(0, number as u64)
+    (number as u64).wrapping_neg()
 }
 
 // Strides about the moves that are left, and such as would wrap.
-fn near(which: usize, stand: Stand) -> u64 {
+fn near(stand: Stand, which: usize) -> u64 {
     match which {
-        22 => 0,
-        23 => 1,
-        24 => stand.left as u64,
-        25 => on(stand.left, 1) as u64,
-        26 => around(stand.here),
-        27 => around(stand.made),
-        _ => 18446744073709551615,
+        0 => 0,
+        1 => 1,
+        2 => stand.left as u64,
+        3 => (stand.left as u64).saturating_add(1),
+        4 => around(stand.here),
+        5 => around(stand.made),
+        _ => u64::MAX,
     }
 }
 
 // Strides that would be 2 if a byte were left out, or if the lowest came first, and one of half the numbers.
 fn far(which: usize) -> u64 {
     match which {
-        29 => 258,
-        30 => 65538,
-        31 => 16777218,
-        32 => 4294967298,
-        33 => 1099511627778,
-        34 => 281474976710658,
-        35 => 72057594037927938,
-        36 => 144115188075855872,
+        0 => 258,
+        1 => 65538,
+        2 => 16777218,
+        3 => 4294967298,
+        4 => 1099511627778,
+        5 => 281474976710658,
+        6 => 72057594037927938,
+        7 => 144115188075855872,
         _ => 9223372036854775808,
     }
 }
 
 pub const ENDINGS: usize = 38;
 
-// One of the endings at a spot of a page.
-pub fn put_ending(page: &mut Page, spot: Spot, stand: Stand, which: usize) -> Case {
-    if which < 8 {
-        return put_few(page, spot, stand.made, without_move(which));
+// Puts one of the endings on a page.
+pub fn put_ending(page: &mut Page, stand: Stand, which: usize) -> Due {
+    match which {
+        0..=7 => put_without_move(page, stand.made, which),
+        8..=13 => put_with_move(page, stand, which - 8),
+        14..=21 => put_cut(page, which - 14),
+        22..=28 => put_strided(page, stand, near(stand, which - 22)),
+        _ => put_strided(page, stand, far(which.saturating_sub(29))),
     }
-    if which < 14 {
-        return put_few(page, spot, stand.made, with_move(which, stand));
-    }
-    if which < 22 {
-        return put_cut(page, spot, which - 14);
-    }
-    if which < 29 {
-        return put_strided(page, spot, stand, near(which, stand));
-    }
-    put_strided(page, spot, stand, far(which))
 }

@@ -1,142 +1,109 @@
 // Writing and rewriting into the one form of edition 2, compared with that form by the document's words.
-use crate::editions::{BEFORE, Page, SPACE, apart};
-use crate::rows::{front, same};
-use crate::single::is;
-use crate::strode::same_refusal;
-use crate::tally;
-use crate::tally::{Tally, note};
+use crate::editions::{Page, SPACE};
+use crate::pressed::{BEFORE, Sheet};
+use crate::single::{is, meets};
+use crate::tally::{Call, Tally};
 use forms::long::write_long;
 use rewriting::rewrite::rewrite;
+use sheets::Written;
 use stock::Refusal;
 
-// So many moves that are to be written, the length of their form, and what they meet where there is room for that.
-#[derive(Clone, Copy)]
-pub struct Order {
-    pub moves: u64,
-    pub length: usize,
-    pub refusal: Refusal,
-}
+// What is to come of writing: the form, or a refusal.
+type Due<'a> = Result<&'a Page, Refusal>;
 
-// What they meet in so much room: first 13.
-fn met_in(order: Order, room: usize) -> Refusal {
-    if room < order.length {
-        return Refusal { no: 13, place: 0 };
+// What is to come in so much room: first 13, where the form takes more.
+fn in_room<'a>(form: &Page, room: usize, due: Due<'a>) -> Due<'a> {
+    if room < form.end {
+        return Err(Refusal { no: 13, place: 0 });
     }
-    order.refusal
+    due
 }
 
 // Whether a page has the form, and its length is answered; or where it is refused, whether the page is as it was and 0 is answered.
-fn page_agrees(page: &Page, answered: u64, no: u8, form: &Page, length: usize) -> bool {
-    if no != 0 {
-        if answered != 0 {
-            return false;
-        }
-        return same(page, &[BEFORE; SPACE]);
-    }
-    if answered != length as u64 {
-        return false;
-    }
-    same(page, form)
+fn page_agrees(page: &[u8; SPACE], written: Written, due: Due) -> bool {
+    let left = match due {
+        Ok(form) => *form,
+        Err(_) => Sheet::new(),
+    };
+    meets(written.refusal, &due) && written.length == left.end as u64 && *page == left.bytes
 }
 
-fn write_agrees(stock: &[u16], strip: &[u8], order: Order, room: usize, form: &Page) -> bool {
-    if SPACE < room {
-        return false;
-    }
-    let mut page: Page = [BEFORE; SPACE];
-    let written = write_long(stock, strip, order.moves, &mut page[0..room]);
-    let refusal = written.refusal;
-    let awaited = met_in(order, room);
-    if !same_refusal(refusal, awaited) {
-        return false;
-    }
-    page_agrees(&page, written.length, awaited.no, form, order.length)
-}
-
-fn write_call(refusal: Refusal) -> usize {
-    let no = refusal.no;
-    match no {
-        0 => tally::WRITE_LONG,
-        _ => tally::WRITE_LONG_REFUSED,
-    }
+// So many moves from a strip of a stock, which are to be written.
+#[derive(Clone, Copy)]
+pub struct Order<'a> {
+    pub stock: &'a [u16],
+    pub strip: &'a [u8],
+    pub moves: u64,
 }
 
 // Writing in so much room.
-pub fn compare_room(
-    tally: &mut Tally,
-    stock: &[u16],
-    strip: &[u8],
-    order: Order,
-    room: usize,
-    form: &Page,
-) {
-    let call = write_call(met_in(order, room));
-    note(tally, call, write_agrees(stock, strip, order, room, form));
+pub fn compare_room(tally: &mut Tally, order: Order, room: usize, due: Due) {
+    let mut page: [u8; SPACE] = [BEFORE; SPACE];
+    let call = match due {
+        Ok(_) => Call::WriteLong,
+        Err(_) => Call::WriteLongRefused,
+    };
+    let agrees = match page.get_mut(..room) {
+        Some(lent) => {
+            let written = write_long(order.stock, order.strip, order.moves, lent);
+            page_agrees(&page, written, due)
+        }
+        None => false,
+    };
+    tally.note(call, agrees);
 }
 
 // Writing with more room than the form takes, with as much and with one byte less.
-pub fn compare_written(tally: &mut Tally, stock: &[u16], strip: &[u8], order: Order, form: &Page) {
-    let length = order.length;
-    compare_room(tally, stock, strip, order, SPACE, form);
-    compare_room(tally, stock, strip, order, length, form);
-    compare_room(tally, stock, strip, order, apart(length, 1), form);
-}
-
-fn rewrite_agrees(sheet: &[u8], order: Order, room: usize, form: &Page) -> bool {
-    if SPACE < room {
-        return false;
-    }
-    let mut page: Page = [BEFORE; SPACE];
-    let written = rewrite(sheet, &mut page[0..room]);
-    let refusal = written.refusal;
-    let awaited = met_in(order, room);
-    if !same_refusal(refusal, awaited) {
-        return false;
-    }
-    page_agrees(&page, written.length, awaited.no, form, order.length)
-}
-
-fn rewrite_call(refusal: Refusal) -> usize {
-    let no = refusal.no;
-    match no {
-        0 => tally::REWRITE,
-        13 => tally::REWRITE_ROOM,
-        _ => tally::REWRITE_REFUSED,
+pub fn compare_written(tally: &mut Tally, order: Order, form: &Page, left: Result<(), Refusal>) {
+    let due = left.map(|()| form);
+    for room in [SPACE, form.end, form.end.saturating_sub(1)] {
+        compare_room(tally, order, room, in_room(form, room, due));
     }
 }
 
-fn compare_rewrite(tally: &mut Tally, sheet: &[u8], order: Order, room: usize, form: &Page) {
-    let call = rewrite_call(met_in(order, room));
-    note(tally, call, rewrite_agrees(sheet, order, room, form));
+fn rewrite_call(due: Due) -> Call {
+    match due {
+        Ok(_) => Call::Rewrite,
+        Err(refusal) if refusal.no == 13 => Call::RewriteRoom,
+        Err(_) => Call::RewriteRefused,
+    }
+}
+
+fn compare_rewrite(tally: &mut Tally, sheet: &[u8], room: usize, due: Due) {
+    let mut page: [u8; SPACE] = [BEFORE; SPACE];
+    let agrees = match page.get_mut(..room) {
+        Some(lent) => {
+            let written = rewrite(sheet, lent);
+            page_agrees(&page, written, due)
+        }
+        None => false,
+    };
+    tally.note(rewrite_call(due), agrees);
 }
 
 // Rewrites a right sheet, and what came of it once more: that is to change nothing.
 fn again_agrees(sheet: &[u8]) -> bool {
-    let mut once: Page = [BEFORE; SPACE];
-    let mut twice: Page = [BEFORE; SPACE];
+    let mut once: [u8; SPACE] = [BEFORE; SPACE];
+    let mut twice: [u8; SPACE] = [BEFORE; SPACE];
     let first = rewrite(sheet, &mut once);
     if (SPACE as u64) < first.length {
         return false;
     }
-    let second = rewrite(front(&once, first.length as usize), &mut twice);
-    let refusal = second.refusal;
-    if !is(refusal, 0) {
-        return false;
-    }
-    if first.length != second.length {
-        return false;
-    }
-    same(&once, &twice)
+    let second = rewrite(&once[..first.length as usize], &mut twice);
+    is(second.refusal, 0) && first.length == second.length && once == twice
 }
 
-// Rewriting with more room than the form takes, with as much and with one byte less, and again. A refused sheet has no form: with a length of 0 it is tried
-// in no room at all, where 13 comes after all that reading meets.
-pub fn compare_rewritten(tally: &mut Tally, sheet: &[u8], order: Order, form: &Page) {
-    let length = order.length;
-    compare_rewrite(tally, sheet, order, SPACE, form);
-    compare_rewrite(tally, sheet, order, length, form);
-    if 0 < length {
-        compare_rewrite(tally, sheet, order, length - 1, form);
-        note(tally, tally::REWRITE_AGAIN, again_agrees(sheet));
+// Rewriting with more room than the form takes, with as much and with one byte less, and again. A refused sheet has no form: it is tried in no room at all,
+// where 13 comes after all that reading meets.
+pub fn compare_rewritten(tally: &mut Tally, sheet: &[u8], due: Due) {
+    compare_rewrite(tally, sheet, SPACE, due);
+    match due {
+        Ok(form) => {
+            let short = form.end.saturating_sub(1);
+            compare_rewrite(tally, sheet, form.end, due);
+            compare_rewrite(tally, sheet, short, in_room(form, short, due));
+            tally.note(Call::RewriteAgain, again_agrees(sheet));
+        }
+        Err(_) => compare_rewrite(tally, sheet, 0, due),
     }
 }

@@ -1,142 +1,95 @@
-// The calls on strips that are hung endless compared with a book: Same paper, Stand.
-use crate::rows::{copy, least, same, strip_at};
+// The calls on strips that are hung endless compared with a book: Same paper, Stand. The strips are of as many blocks as those of the book.
+use crate::rows::{Book, Word};
 use crate::single::is;
-use crate::tally;
-use crate::tally::{Tally, note};
-use crate::turns::{
-    Word, blocks, is_reversed, is_turn, is_turn_at, least_turn, places, turn_at, turns,
-};
+use crate::tally::{Call, Tally};
+use crate::turns::{is_turn, least_turn, turn_at, turns, word_at};
 use endless::stand::{Stood, stand};
-use papers::same_paper;
+use papers::{Asked, same_paper};
 
-fn same_agrees(stock: &[u16], first: &[u8], second: &[u8]) -> bool {
-    let asked = same_paper(stock, first, second);
-    if asked.same != is_turn(first, second) {
-        return false;
-    }
-    let refusal = asked.refusal;
-    is(refusal, 0)
+fn asked(book: &Book, first: &Word, second: &Word) -> Asked {
+    same_paper(book.stock, &first[..book.blocks], &second[..book.blocks])
 }
 
-// The strip that Stand leaves, and zeros behind it; all zeros where it answers a refusal.
-fn stood(stock: &[u16], strip: &[u8]) -> Word {
-    let n = strip.len();
-    let mut word: Word = [0; 8];
-    if n <= 8 {
-        copy(&mut word, strip);
-        let answer = stand(stock, &mut word[0..n]);
-        let refusal = answer.refusal;
-        if is(refusal, 0) {
-            return word;
-        }
+fn same_agrees(book: &Book, first: &Word, second: &Word) -> bool {
+    let asked = asked(book, first, second);
+    let is_due = is_turn(&first[..book.blocks], second);
+    asked.same == is_due && is(asked.refusal, 0)
+}
+
+// The strip that Stand leaves, and what it answers.
+fn stood(book: &Book, strip: Word) -> (Word, Stood) {
+    let mut word = strip;
+    let stood = stand(book.stock, &mut word[..book.blocks]);
+    (word, stood)
+}
+
+// The strip that Stand leaves where it answers no refusal.
+fn standing(book: &Book, strip: &Word) -> Option<Word> {
+    let (word, stood) = stood(book, *strip);
+    if is(stood.refusal, 0) {
+        Some(word)
+    } else {
+        None
     }
-    [0; 8]
 }
 
 // Two strips have the same standing strip exactly where Same paper says yes.
-fn standing_agrees(stock: &[u16], first: &[u8], second: &[u8]) -> bool {
-    let asked = same_paper(stock, first, second);
-    asked.same == same(&stood(stock, first), &stood(stock, second))
+fn standing_agrees(book: &Book, first: &Word, second: &Word) -> bool {
+    asked(book, first, second).same == (standing(book, first) == standing(book, second))
 }
 
-// Whether an answer is the turn at an index of the row of a strip, and no refusal.
-fn answer_agrees(stood: Stood, strip: &[u8], i: usize) -> bool {
-    if stood.turn != places(strip, i) as u64 {
-        return false;
-    }
-    if stood.reversed != is_reversed(strip, i) {
-        return false;
-    }
-    let refusal = stood.refusal;
-    is(refusal, 0)
-}
-
-fn stand_agrees(stock: &[u16], strip: &[u8], work: &mut [u8]) -> bool {
+// Whether Stand leaves the first of the smallest turns, and answers which that is.
+fn stand_agrees(book: &Book, i: usize) -> bool {
+    let strip = book.strip(i);
     let due = least_turn(strip);
-    copy(work, strip);
-    let stood = stand(stock, work);
-    if !is_turn_at(strip, work, due) {
-        return false;
-    }
-    answer_agrees(stood, strip, due)
+    let turn = turn_at(strip.len(), due);
+    let (word, stood) = stood(book, book.word(i));
+    word == word_at(strip, due)
+        && stood.turn == turn.places as u64
+        && stood.reversed == turn.reversed
+        && is(stood.refusal, 0)
 }
 
 // Standing a strip that stands reverses nothing, turns it by no place, and leaves it.
-fn again_agrees(stock: &[u16], strip: &[u8], work: &mut [u8]) -> bool {
-    let before = stood(stock, strip);
-    copy(work, &before);
-    let stood = stand(stock, work);
-    if stood.turn != 0 {
-        return false;
-    }
-    if stood.reversed {
-        return false;
-    }
-    if !same(work, blocks(&before, strip.len())) {
-        return false;
-    }
-    let refusal = stood.refusal;
-    is(refusal, 0)
-}
-
-fn compare_pair(tally: &mut Tally, stock: &[u16], first: &[u8], second: &[u8]) {
-    note(tally, tally::SAME_PAPER, same_agrees(stock, first, second));
-    note(
-        tally,
-        tally::SAME_STANDING,
-        standing_agrees(stock, first, second),
-    );
-}
-
-fn compare_turn(tally: &mut Tally, stock: &[u16], strip: &[u8], i: usize) {
-    let turn = turn_at(strip, i);
-    compare_pair(tally, stock, strip, blocks(&turn, strip.len()));
-}
-
-// A strip with each of its turns.
-fn compare_turns(tally: &mut Tally, stock: &[u16], strip: &[u8]) {
-    let many = turns(strip);
-    let mut i: usize = 0;
-    while i < many {
-        compare_turn(tally, stock, strip, i);
-        i += 1;
+fn again_agrees(book: &Book, i: usize) -> bool {
+    match standing(book, &book.word(i)) {
+        Some(before) => {
+            let (word, stood) = stood(book, before);
+            word == before && stood.turn == 0 && !stood.reversed && is(stood.refusal, 0)
+        }
+        None => false,
     }
 }
 
-// A strip with those from one number to before another.
-fn compare_with(
-    tally: &mut Tally,
-    stock: &[u16],
-    book: &[u8],
-    strip: &[u8],
-    from: usize,
-    to: usize,
-) {
-    let mut j = from;
-    while j < to {
-        let second = strip_at(book, j, strip.len());
-        compare_pair(tally, stock, strip, second);
-        j += 1;
+fn compare_pair(tally: &mut Tally, book: &Book, first: &Word, second: &Word) {
+    tally.note(Call::SamePaper, same_agrees(book, first, second));
+    tally.note(Call::SameStanding, standing_agrees(book, first, second));
+}
+
+// The strip of a number with each of its turns.
+fn compare_turns(tally: &mut Tally, book: &Book, i: usize) {
+    let strip = book.strip(i);
+    for turn in 0..turns(strip) {
+        compare_pair(tally, book, &book.word(i), &word_at(strip, turn));
     }
 }
 
 // The strip of a number with every strip, for stocks of up to 4 blocks, and else with the next three of the book.
-fn compare_others(tally: &mut Tally, stock: &[u16], book: &[u8], i: usize, strip: &[u8]) {
-    let strips = book.len() / 8;
-    if strip.len() <= 4 {
-        compare_with(tally, stock, book, strip, 0, strips);
-        return;
-    }
-    if i < strips {
-        compare_with(tally, stock, book, strip, i + 1, least(i + 4, strips));
+fn compare_others(tally: &mut Tally, book: &Book, i: usize) {
+    let (first, many) = if book.blocks <= 4 {
+        (0, book.rows.len())
+    } else {
+        (i.saturating_add(1), 3)
+    };
+    for other in book.rows.iter().skip(first).take(many) {
+        compare_pair(tally, book, &book.word(i), &other.word);
     }
 }
 
-// The strip of a number, hung endless, with a strip to work on.
-pub fn compare_hung(tally: &mut Tally, stock: &[u16], book: &[u8], i: usize, work: &mut [u8]) {
-    let strip = strip_at(book, i, work.len());
-    note(tally, tally::STAND, stand_agrees(stock, strip, work));
-    note(tally, tally::STAND_AGAIN, again_agrees(stock, strip, work));
-    compare_turns(tally, stock, strip);
-    compare_others(tally, stock, book, i, strip);
+// The strip of a number, hung endless.
+pub fn compare_hung(tally: &mut Tally, book: &Book, i: usize) {
+    tally.note(Call::Stand, stand_agrees(book, i));
+    tally.note(Call::StandAgain, again_agrees(book, i));
+    compare_turns(tally, book, i);
+    compare_others(tally, book, i);
 }

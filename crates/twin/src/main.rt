@@ -12,8 +12,6 @@
 
 mod books;
 mod compare;
-mod cut_counts;
-mod dictionary_order;
 mod editions;
 mod endings;
 mod filed;
@@ -28,7 +26,6 @@ mod replays;
 mod rows;
 mod runs;
 mod search;
-mod shelf;
 mod single;
 mod sought;
 mod spaced;
@@ -47,94 +44,58 @@ ghost use Rattle.std.specs.Prelude.{◌≤◌};
 use books::build;
 use compare::compare_book;
 use patterns::{Lists, bit};
-use shelf::{BYTES, Book, Shelf, cuts_of, rows_of};
+use rows::Book;
 use std::io;
-use stocks::{cut, first_counts};
+use stocks::cut;
 use tally::Tally;
 use vast::compare_vast;
-
-// A book with a strip of n blocks to work on.
-fn compare_on(tally: &mut Tally, stock: &[u16], shelf: &Shelf, book: Book, n: usize)
-    requires { n ≤ 8 }
-{
-    let mut work: [u8; 8] = [0; 8];
-    let rows = rows_of(shelf, book);
-    compare_book(tally, stock, rows, cuts_of(shelf, book), &mut work[0..n]);
-}
-
-// The stock of the first of eight counts.
-fn compare_stock(lists: &Lists, tally: &mut Tally, n: usize, counts: [u16; 8], kinds: usize)
-    requires { n ≤ 8 }
-{
-    let mut shelf: Shelf = [0; BYTES];
-    let stock = first_counts(&counts, kinds);
-    let book = build(lists, &mut shelf, stock);
-    compare_on(tally, stock, &shelf, book, n);
-}
 
 // The stock of n blocks with these cuts and gaps.
 fn compare_cut(lists: &Lists, tally: &mut Tally, n: usize, cuts: u8, gaps: u8)
     requires { n ≤ 8 }
 {
-    let stock = cut(n, cuts, gaps);
-    let counts = stock.counts;
-    compare_stock(lists, tally, n, counts, stock.kinds);
+    let parts = cut(n, cuts, gaps);
+    let rows = build(lists, parts.stock());
+    let book = Book {
+        stock: parts.stock(),
+        rows: rows.as_slice(),
+        blocks: n,
+    };
+    compare_book(tally, &book);
 }
 
 // Whether a kind begins at each of these blocks: at block 0, or behind a cut, of which there is none behind the last of eight blocks.
 fn are_starts(gaps: u8, cuts: u8) -> bool {
-    if 128 <= cuts {
-        return false;
-    }
-    let starts = 2 * cuts + 1;
-    gaps & starts == gaps
+    cuts < 128 && gaps & (2 * cuts + 1) == gaps
 }
 
 // The stock of n blocks with these cuts; with up to 4 blocks also with a kind without blocks before some of its kinds, or before each.
 fn compare_gaps(lists: &Lists, tally: &mut Tally, n: usize, cuts: u8)
     requires { n ≤ 8 }
 {
-    compare_cut(lists, tally, n, cuts, 0);
-    if 4 < n {
-        return;
-    }
-    let ways = bit(n);
-    let mut gaps: u8 = 1;
-    while gaps < ways {
-        let now = gaps;
-        gaps += 1;
-        if are_starts(now, cuts) {
-            compare_cut(lists, tally, n, cuts, now);
+    let ways = if n <= 4 { bit(n) } else { 1 };
+    for gaps in 0..ways {
+        if are_starts(gaps, cuts) {
+            compare_cut(lists, tally, n, cuts, gaps);
         }
     }
 }
 
-// Every stock of n blocks: n - 1 places where the blocks are cut or not.
-fn compare_stocks(lists: &Lists, tally: &mut Tally, n: usize, ways: u8)
-    requires { n ≤ 8 }
+// Every stock of n blocks: before the last, n - 1 places where the blocks are cut or not.
+fn compare_stocks(lists: &Lists, tally: &mut Tally, places: usize)
+    requires { places ≤ 7 }
 {
-    let mut cuts: u8 = 0;
-    while cuts < ways {
-        compare_gaps(lists, tally, n, cuts);
-        cuts += 1;
-    }
-}
-
-// Every stock of up to 7 blocks.
-fn compare_all(lists: &Lists, tally: &mut Tally) {
-    let mut places: usize = 0;
-    while places < 7 {
-        let ways = bit(places);
-        places += 1;
-        compare_stocks(lists, tally, places, ways);
+    for cuts in 0..bit(places) {
+        compare_gaps(lists, tally, places + 1, cuts);
     }
 }
 
 fn main(rt: HostRuntime) -> io::Result<()> {
-    let mut lists: Lists = [0; 4608];
-    let mut tally: Tally = [0; 128];
-    patterns::fill(&mut lists);
-    compare_all(&lists, &mut tally);
+    let lists = patterns::lists();
+    let mut tally = Tally::new();
+    for places in 0..7 {
+        compare_stocks(&lists, &mut tally, places);
+    }
     compare_vast(&mut tally);
-    tally::print(rt.stdout(), &tally)
+    tally::print(&rt, &tally)
 }

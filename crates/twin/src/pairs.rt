@@ -1,75 +1,60 @@
 // The calls on two strips compared with a book: Which, Earlier, Distance.
 use crate::parting::parting_kind;
-use crate::rows::{same, strip_at};
+use crate::rows::Book;
 use crate::single::is;
-use crate::tally::{DISTANCE, EARLIER, KIND, Tally, WHICH, note};
+use crate::tally::{Call, Tally};
 use comparing::earlier::earlier;
 use comparing::which::which;
 use measuring::distance::distance;
+use std::cmp::Ordering;
 
-// 1 for the first of two numbers, 2 for the second, 3 where they are equal.
-fn smaller(i: usize, j: usize) -> u8 {
-    if i < j {
-        return 1;
+// 1 for the first of two strips, 2 for the second, 3 where they are the same.
+fn code(order: Ordering) -> u8 {
+    match order {
+        Ordering::Less => 1,
+        Ordering::Greater => 2,
+        Ordering::Equal => 3,
     }
-    if j < i {
-        return 2;
-    }
-    3
 }
 
-fn which_agrees(stock: &[u16], first: &[u8], second: &[u8], order: u8) -> bool {
+fn which_agrees(stock: &[u16], first: &[u8], second: &[u8], order: Ordering) -> bool {
     let compared = which(stock, first, second);
-    if compared.which != order {
-        return false;
-    }
-    let refusal = compared.refusal;
-    is(refusal, 0)
+    compared.which == code(order) && is(compared.refusal, 0)
 }
 
 fn kind_agrees(stock: &[u16], first: &[u8], second: &[u8]) -> bool {
-    let compared = which(stock, first, second);
-    compared.kind == parting_kind(first, second)
+    which(stock, first, second).kind == parting_kind(first, second).unwrap_or(0)
 }
 
-fn earlier_agrees<'a>(stock: &[u16], first: &'a [u8], second: &'a [u8], order: u8) -> bool {
+fn earlier_agrees(stock: &[u16], first: &[u8], second: &[u8], order: Ordering) -> bool {
     let found = earlier(stock, first, second);
-    if order == 2 {
-        return same(found, second);
+    match order {
+        Ordering::Greater => found == second,
+        _ => found == first,
     }
-    same(found, first)
 }
 
 fn distance_agrees(stock: &[u16], first: &[u8], second: &[u8], moves: i64) -> bool {
     let apart = distance(stock, first, second);
-    if apart.moves != moves {
-        return false;
-    }
-    let refusal = apart.refusal;
-    is(refusal, 0)
+    apart.moves == moves && is(apart.refusal, 0)
 }
 
 // One number minus another, of small ones.
 fn minus(to: usize, from: usize) -> i64 {
-    if to < 65536 {
-        if from < 65536 {
-            return to as i64 - from as i64;
-        }
-    }
-    0
+    (to as u64).wrapping_sub(from as u64).cast_signed()
 }
 
 // The strips of two numbers.
-pub fn compare_pair(tally: &mut Tally, stock: &[u16], book: &[u8], n: usize, i: usize, j: usize) {
-    let first = strip_at(book, i, n);
-    let second = strip_at(book, j, n);
-    let order = smaller(i, j);
-    note(tally, WHICH, which_agrees(stock, first, second, order));
-    note(tally, KIND, kind_agrees(stock, first, second));
-    note(tally, EARLIER, earlier_agrees(stock, first, second, order));
-    note(
-        tally,
-        DISTANCE,
+pub fn compare_pair(tally: &mut Tally, book: &Book, i: usize, j: usize) {
+    let stock = book.stock;
+    let first = book.strip(i);
+    let second = book.strip(j);
+    let order = i.cmp(&j);
+    tally.note(Call::Which, which_agrees(stock, first, second, order));
+    tally.note(Call::Kind, kind_agrees(stock, first, second));
+    tally.note(Call::Earlier, earlier_agrees(stock, first, second, order));
+    tally.note(
+        Call::Distance,
         distance_agrees(stock, first, second, minus(j, i)),
     );
 }

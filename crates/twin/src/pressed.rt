@@ -1,117 +1,96 @@
 // Press sheets by the document's words: the records of a stock, of a strip of its book and of the strips that follow it there. No strip is moved: the
 // places of a move are those at which two rows of the book differ.
-use crate::rows::{block, strip_at};
+use crate::rows::{Book, places};
 
-// The bytes of a sheet of the most moves that are listed here.
-pub const ROOM: usize = 83 + 3 * MOST;
+// What stands in a buffer before it is written, and behind the end of a sheet.
+pub const BEFORE: u8 = 238;
 
-pub const MOST: usize = 7;
-
-pub type Sheet = [u8; ROOM];
-
-pub fn byte(sheet: &Sheet, i: usize) -> u8 {
-    if i < ROOM {
-        return sheet[i];
-    }
-    0
-}
-
-pub fn put(sheet: &mut Sheet, i: usize, value: u8) {
-    if i < ROOM {
-        sheet[i] = value;
-    }
-}
-
-// The count of a kind, of a stock of few blocks.
-fn count(stock: &[u16], j: usize) -> u8 {
-    if j < stock.len() {
-        let amount = stock[j];
-        if amount < 256 {
-            return amount as u8;
-        }
-    }
-    0
-}
-
-// Sixteen counts, with zeros after the last.
-fn put_counts(sheet: &mut Sheet, stock: &[u16]) {
-    let mut j: usize = 0;
-    while j < 16 {
-        put(sheet, 1 + j, count(stock, j));
-        j += 1;
-    }
-}
-
-// Sixty-four blocks, with zeros after the last.
-fn put_blocks(sheet: &mut Sheet, strip: &[u8]) {
-    let mut i: usize = 0;
-    while i < 64 {
-        put(sheet, 18 + i, block(strip, i));
-        i += 1;
-    }
-}
-
-// The first place at which two strips differ, or the last.
-pub fn place(one: &[u8], other: &[u8], last: bool) -> u8 {
-    let mut found: u8 = 0;
-    let mut i: u8 = 0;
-    while i < 8 {
-        let differs = block(one, i as usize) != block(other, i as usize);
-        i += 1;
-        if differs {
-            found = i;
-            if !last {
-                return found;
-            }
-        }
-    }
-    found
-}
-
-// Where a sheet begins: the number of its strip, and how many blocks that has.
+// A sheet that is written from the first of N bytes on: where it ends so far, and where its first stride stands.
 #[derive(Clone, Copy)]
-pub struct Start {
-    pub number: usize,
-    pub blocks: usize,
+pub struct Sheet<const N: usize> {
+    pub bytes: [u8; N],
+    pub end: usize,
+    pub stride: Option<usize>,
 }
 
-// The record of the move behind so many others.
-fn put_move(sheet: &mut Sheet, book: &[u8], start: Start, made: usize) {
-    let number = start.number;
-    if made < MOST {
-        if number < book.len() / 8 {
-            let from = strip_at(book, number + made, start.blocks);
-            let to = strip_at(book, number + made + 1, start.blocks);
-            let at = 82 + 3 * made;
-            put(sheet, at, 3);
-            put(sheet, at + 1, place(from, to, false));
-            put(sheet, at + 2, place(from, to, true));
+impl<const N: usize> Sheet<N> {
+    // Nothing is written.
+    pub fn new() -> Self {
+        Sheet {
+            bytes: [BEFORE; N],
+            end: 0,
+            stride: None,
         }
     }
-}
 
-// The records of so many moves, and the end behind them.
-fn put_moves(sheet: &mut Sheet, book: &[u8], start: Start, moves: usize) {
-    let mut made: usize = 0;
-    while made < moves {
-        put_move(sheet, book, start, made);
-        made += 1;
+    // The bytes that are written.
+    pub fn written(&self) -> &[u8] {
+        self.bytes.get(..self.end).unwrap_or(&[])
     }
-    if moves <= MOST {
-        put(sheet, 82 + 3 * moves, 4);
+
+    // One byte more, where there is room.
+    fn push(&mut self, byte: u8) {
+        if self.end < N {
+            self.bytes[self.end] = byte;
+            self.end += 1;
+        }
     }
-}
 
-// The records of a stock and a strip.
-pub fn put_opening(sheet: &mut Sheet, stock: &[u16], strip: &[u8]) {
-    put(sheet, 0, 1);
-    put_counts(sheet, stock);
-    put(sheet, 17, 2);
-    put_blocks(sheet, strip);
-}
+    pub fn put(&mut self, bytes: &[u8]) {
+        for byte in bytes {
+            self.push(*byte);
+        }
+    }
 
-// The sheet of a stock, a strip of its book and up to seven moves on. The bytes behind it stay.
-pub fn put_sheet(sheet: &mut Sheet, stock: &[u16], book: &[u8], start: Start, moves: usize) {
-    put_opening(sheet, stock, strip_at(book, start.number, start.blocks));
-    put_moves(sheet, book, start, moves);
+    // The record of a move.
+    pub fn put_move(&mut self, low: u8, high: u8) {
+        self.put(&[3, low, high]);
+    }
+
+    // The record of a stride, from the highest digit to the lowest.
+    pub fn put_stride(&mut self, moves: u64) {
+        if self.stride.is_none() {
+            self.stride = Some(self.end);
+        }
+        self.push(5);
+        self.put(&moves.to_be_bytes());
+    }
+
+    pub fn put_end(&mut self) {
+        self.push(4);
+    }
+
+    // The record of a stock of few blocks: sixteen counts, with zeros after the last.
+    fn put_stock(&mut self, stock: &[u16]) {
+        let mut counts: [u8; 16] = [0; 16];
+        for (place, count) in counts.iter_mut().zip(stock) {
+            *place = u8::try_from(*count).unwrap_or(0);
+        }
+        self.push(1);
+        self.put(&counts);
+    }
+
+    // The record of a strip: sixty-four blocks, with zeros after the last.
+    fn put_strip(&mut self, strip: &[u8]) {
+        let mut blocks: [u8; 64] = [0; 64];
+        for (place, block) in blocks.iter_mut().zip(strip) {
+            *place = *block;
+        }
+        self.push(2);
+        self.put(&blocks);
+    }
+
+    // A sheet with the records of a stock and a strip.
+    pub fn opened(stock: &[u16], strip: &[u8]) -> Self {
+        let mut sheet = Sheet::new();
+        sheet.put_stock(stock);
+        sheet.put_strip(strip);
+        sheet
+    }
+
+    // The record of the move on from the strip of a number.
+    pub fn put_next(&mut self, book: &Book, number: usize) {
+        let (low, high) = places(&book.word(number), &book.word(number.saturating_add(1)));
+        self.put_move(low, high);
+    }
 }

@@ -1,130 +1,148 @@
-// Reading a book, a row of eight bytes for each strip, and working on a strip.
-ghost use Rattle.std.specs.Prelude.{◌≡◌, min};
+// The rows of a book, and a book with its stock.
+ghost use Rattle.std.specs.Prelude.{◌≤◌};
 
-// The smaller of two numbers.
-pub fn least(one: usize, other: usize) -> usize
-    ensures { result ≡ min one other }
-{
-    if one < other {
-        return one;
-    }
-    other
+// A strip, and zeros behind it, which decide nothing where two of one length are compared.
+pub type Word = [u8; 8];
+
+// Seven kinds of one block have the most strips.
+pub const MOST: usize = 5040;
+
+// A strip of a book: its number there, its directions, where bit j - 1 is set if kind j runs backward, and its cuts. Rows are in order by their strips, block
+// by block.
+#[derive(Clone, Copy, PartialEq, Eq, PartialOrd, Ord)]
+pub struct Row {
+    pub word: Word,
+    pub number: usize,
+    pub directions: u8,
+    pub cuts: u8,
 }
 
-// The number of the last strip.
-pub fn last(book: &[u8]) -> usize {
-    let strips = book.len() / 8;
-    if 0 < strips {
-        return strips - 1;
-    }
-    0
+impl Row {
+    // The row of a strip of no blocks.
+    pub const EMPTY: Row = Row {
+        word: [0; 8],
+        number: 0,
+        directions: 0,
+        cuts: 0,
+    };
 }
 
-// The strip of a number, of n blocks.
-pub fn strip_at(book: &[u8], i: usize, n: usize) -> &[u8] {
-    if i < book.len() / 8 {
-        if n < 8 {
-            let at = i * 8;
-            return &book[at..at + n];
+// Rows that are written down one after the other.
+#[derive(Drop)]
+pub struct Rows {
+    rows: [Row; MOST],
+    many: usize,
+    ghost few: { many ≤ 5040 },
+}
+
+impl Rows {
+    pub fn new() -> Rows {
+        Rows {
+            rows: [Row::EMPTY; MOST],
+            many: 0,
         }
     }
-    &book[..0]
-}
 
-// The directions of the strip of a number.
-pub fn directions_at(book: &[u8], i: usize) -> u8 {
-    if i < book.len() / 8 {
-        return book[i * 8 + 7];
-    }
-    0
-}
-
-// The number on from a number, or back; the same where the book ends.
-pub fn beside(book: &[u8], i: usize, back: bool) -> usize {
-    if back {
-        if 0 < i {
-            return i - 1;
+    pub fn push(&mut self, row: Row) {
+        if self.many < MOST {
+            self.rows[self.many] = row;
+            self.many += 1;
         }
-        return i;
     }
-    if i < last(book) {
-        return i + 1;
-    }
-    i
-}
 
-// The block at an index.
-pub fn block(strip: &[u8], i: usize) -> u8 {
-    if i < strip.len() {
-        return strip[i];
+    pub fn len(&self) -> usize {
+        self.many
     }
-    0
-}
 
-// The first of some bytes.
-pub fn front(bytes: &[u8], length: usize) -> &[u8] {
-    if length <= bytes.len() {
-        return &bytes[0..length];
+    pub fn as_slice(&self) -> &[Row] {
+        &self.rows[..self.many]
     }
-    bytes
-}
 
-// Puts a strip into a lent one of the same length.
-pub fn copy(work: &mut [u8], strip: &[u8]) {
-    let mut i = 0;
-    while i < work.len() {
-        work[i] = block(strip, i);
-        i += 1;
+    pub fn sorted(self) -> Rows {
+        let Rows { mut rows, many } = self;
+        rows[..many].sort_unstable();
+        Rows { rows, many }
     }
 }
 
-// Puts a strip into the row of a number, and zeros behind it.
-pub fn put_row(rows: &mut [u8], i: usize, strip: &[u8]) {
-    if i < rows.len() / 8 {
-        let at = i * 8;
-        copy(&mut rows[at..at + 8], strip);
-    }
+// The rows of a stock, whose strips have so many blocks: its book, or the same rows in dictionary order.
+#[derive(Clone, Copy)]
+pub struct Book<'a> {
+    pub stock: &'a [u16],
+    pub rows: &'a [Row],
+    pub blocks: usize,
+    ghost short: { blocks ≤ 8 },
 }
 
-// Whether two strips are the same.
-pub fn same(one: &[u8], other: &[u8]) -> bool {
-    if one.len() != other.len() {
-        return false;
+impl<'a> Book<'a> {
+    // The index of the last strip.
+    pub fn last(&self) -> usize {
+        self.rows.len().saturating_sub(1)
     }
-    let mut i = 0;
-    while i < one.len() {
-        if block(one, i) != block(other, i) {
-            return false;
+
+    fn row(&self, i: usize) -> Row {
+        self.rows.get(i).copied().unwrap_or(Row::EMPTY)
+    }
+
+    // The strip at an index, with zeros behind it.
+    pub fn word(&self, i: usize) -> Word {
+        self.row(i).word
+    }
+
+    // The blocks of the strip at an index; none where there is no strip.
+    pub fn strip(&self, i: usize) -> &'a [u8] {
+        match self.rows.get(i) {
+            Some(row) => &row.word[..self.blocks],
+            None => &[],
         }
-        i += 1;
     }
-    true
+
+    // The directions of the strip at an index.
+    pub fn directions(&self, i: usize) -> u8 {
+        self.row(i).directions
+    }
+
+    // The cuts of the strip at an index.
+    pub fn cuts(&self, i: usize) -> u8 {
+        self.row(i).cuts
+    }
+
+    // The index of a strip.
+    pub fn position(&self, word: &Word) -> Option<usize> {
+        self.rows.iter().position(|row| row.word == *word)
+    }
+
+    // The index on from an index, or back from it; none where the book ends.
+    pub fn beside(&self, i: usize, back: bool) -> Option<usize> {
+        if back {
+            return i.checked_sub(1);
+        }
+        if i < self.last() { Some(i + 1) } else { None }
+    }
 }
 
 // Exchanges the blocks of two places, the smaller first. Gives whether there are two such places and their blocks differ.
-pub fn exchange(work: &mut [u8], low: u8, high: u8) -> bool {
-    if low == 0 {
+pub fn exchange(strip: &mut [u8], low: u8, high: u8) -> bool {
+    let a = usize::from(low);
+    let b = usize::from(high);
+    if a == 0 || b <= a || strip.len() < b {
         return false;
     }
-    if high <= low {
-        return false;
-    }
-    let a = low as usize - 1;
-    let b = high as usize - 1;
-    if work.len() <= b {
-        return false;
-    }
-    let first = work[a];
-    let second = work[b];
-    work[a] = second;
-    work[b] = first;
-    first != second
+    strip.swap(a - 1, b - 1);
+    strip[a - 1] != strip[b - 1]
 }
 
-// Exchanges the blocks of two places, and compares the strip with what it is then to be.
-pub fn exchange_gives(work: &mut [u8], low: u8, high: u8, to: &[u8]) -> bool {
-    if !exchange(work, low, high) {
-        return false;
+// The first place at which two strips differ, and the last; zeros where they are the same.
+pub fn places(one: &Word, other: &Word) -> (u8, u8) {
+    let mut low: u8 = 0;
+    let mut high: u8 = 0;
+    for i in 0..8u8 {
+        if one[usize::from(i)] != other[usize::from(i)] {
+            high = i + 1;
+            if low == 0 {
+                low = high;
+            }
+        }
     }
-    same(work, to)
+    (low, high)
 }

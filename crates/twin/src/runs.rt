@@ -1,93 +1,59 @@
 // Run compared with a book.
-use crate::rows::{copy, directions_at, exchange_gives, last, least, same, strip_at};
+use crate::rows::{Book, exchange};
 use crate::single::{directed, is, opened_walker};
-use crate::tally::{LISTED, Tally, note};
+use crate::tally::{Call, Tally};
 use running::run::{Ran, run};
 
-// The moves that a list has room for, as far as the book goes.
-fn moves_of(list: &[u8], book: &[u8]) -> usize {
-    least(list.len() / 2, last(book))
-}
-
 // The number m further on than the first, or m further back than the last.
-pub fn number_after(book: &[u8], back: bool, m: usize) -> usize {
+pub fn number_after(book: &Book, back: bool, m: usize) -> usize {
     if back {
-        let end = last(book);
-        if m <= end {
-            return end - m;
-        }
-        return 0;
+        book.last().saturating_sub(m)
+    } else {
+        m
     }
-    m
 }
 
-fn run_from(stock: &[u16], from: &[u8], work: &mut [u8], back: bool, list: &mut [u8]) -> Ran {
-    copy(work, from);
-    let walker = opened_walker(stock, work);
-    run(stock, work, walker, back, list)
-}
-
-fn answer_agrees(ran: Ran, moves: usize, ends: bool, directions: u8) -> bool {
-    let refusal = ran.refusal;
-    if ran.moves != moves as u64 {
-        return false;
-    }
-    if ran.ended != ends {
-        return false;
-    }
-    if !is(refusal, 0) {
-        return false;
-    }
-    let walker = ran.walker;
-    directed(walker, directions)
+// So many moves, and the walker at the number to which they lead.
+fn answer_agrees(ran: Ran, book: &Book, moves: usize, to: usize) -> bool {
+    ran.moves == moves as u64
+        && ran.ended == (moves == book.last())
+        && is(ran.refusal, 0)
+        && directed(&ran.walker, book.directions(to))
 }
 
 // Run on from the first strip, or back from the last, with the room of a lent list.
-pub fn run_agrees(
-    stock: &[u16],
-    book: &[u8],
-    work: &mut [u8],
-    back: bool,
-    list: &mut [u8],
-) -> bool {
-    let n = work.len();
-    let moves = moves_of(list, book);
+fn run_agrees(book: &Book, back: bool, list: &mut [u8]) -> bool {
+    let moves = book.last().min(list.len() / 2);
     let from = number_after(book, back, 0);
     let to = number_after(book, back, moves);
-    let ran = run_from(stock, strip_at(book, from, n), work, back, list);
-    if !same(work, strip_at(book, to, n)) {
-        return false;
-    }
-    answer_agrees(ran, moves, moves == last(book), directions_at(book, to))
+    let mut word = book.word(from);
+    let walker = opened_walker(book.stock, book.strip(from));
+    let ran = run(book.stock, &mut word[..book.blocks], walker, back, list);
+    word == book.word(to) && answer_agrees(ran, book, moves, to)
 }
 
-// Makes a listed move, and compares the strip after it.
-fn make_listed_move(
-    tally: &mut Tally,
-    book: &[u8],
-    work: &mut [u8],
-    back: bool,
-    list: &[u8],
-    i: usize,
-) {
-    if i < list.len() / 2 {
-        let low = list[2 * i];
-        let high = list[2 * i + 1];
-        let number = number_after(book, back, i + 1);
-        let to = strip_at(book, number, work.len());
-        note(tally, LISTED, exchange_gives(work, low, high, to));
+// Makes the listed moves on the first strip, or on the last, and compares the strip after each.
+fn make_listed(tally: &mut Tally, book: &Book, back: bool, list: &[u8]) {
+    let mut word = book.word(number_after(book, back, 0));
+    let (moves, _) = list.as_chunks::<2>();
+    for (made, [low, high]) in moves.iter().take(book.last()).enumerate() {
+        let exchanged = exchange(&mut word[..book.blocks], *low, *high);
+        let to = number_after(book, back, made.saturating_add(1));
+        tally.note(Call::Listed, exchanged && word == book.word(to));
     }
 }
 
-// Makes the listed moves on the first strip, or on the last.
-pub fn make_listed(tally: &mut Tally, book: &[u8], work: &mut [u8], back: bool, list: &[u8]) {
-    let number = number_after(book, back, 0);
-    let from = strip_at(book, number, work.len());
-    copy(work, from);
-    let moves = moves_of(list, book);
-    let mut i = 0;
-    while i < moves {
-        make_listed_move(tally, book, work, back, list, i);
-        i += 1;
+// Run on or back with the room of a lent list, and its moves one by one.
+fn compare_run(tally: &mut Tally, book: &Book, back: bool, list: &mut [u8]) {
+    tally.note(Call::Run, run_agrees(book, back, list));
+    make_listed(tally, book, back, list);
+}
+
+// Run with room for every move of the book, and with room for half of them, since a move takes two bytes.
+pub fn compare_runs(tally: &mut Tally, book: &Book, back: bool) {
+    let mut list: [u8; 10080] = [0; 10080];
+    compare_run(tally, book, back, &mut list);
+    if let Some(half) = list.get_mut(..book.last()) {
+        compare_run(tally, book, back, half);
     }
 }

@@ -1,142 +1,94 @@
-// The calls that search compared with strips in rows: Next paper with those of a dictionary, Next apart with those of a book. Which call it is, and for
-// Next apart whether the strip is hung endless, is told by the tally's number for it.
-use crate::dictionary_order::{MOST, Order, put_rows};
-use crate::rows::{copy, directions_at, front, last, same, strip_at};
-use crate::sought::{
-    Marks, Outcome, Start, answer_agrees, due, given_steps, marked_from, put_mark, steps, ways,
-};
-use crate::spaced::{apart_agrees, is_apart};
-use crate::tally;
-use crate::tally::{Tally, note};
+// The calls that search compared with the rows of a book: Next paper with those of a dictionary, Next apart with those of a book itself.
+use crate::rows::{Book, MOST};
+use crate::sought::{Outcome, answer_agrees, due, given_steps, ways};
+use crate::spaced::Apart;
+use crate::tally::{Call, Tally};
 use crate::turns::stands;
 use endless::next_paper::next_paper;
 
-// Whether a call looks for a strip: the smallest of its turns, or one without equal neighbours.
-fn is_sought(call: usize, strip: &[u8]) -> bool {
-    if call == tally::NEXT_PAPER {
-        return stands(strip);
+// A call that searches.
+pub trait Search {
+    // What it is counted as.
+    fn call(&self) -> Call;
+
+    // Whether it looks for a strip.
+    fn is_sought(&self, strip: &[u8]) -> bool;
+
+    // Whether it answers what is to come on a lent strip, in the rows of a book.
+    fn agrees(&self, book: &Book, strip: &mut [u8], given: u64, due: Outcome) -> bool;
+}
+
+// Next paper, which looks for the smallest of the turns of a strip.
+#[derive(Clone, Copy)]
+struct Papers {}
+
+impl Search for Papers {
+    fn call(&self) -> Call {
+        Call::NextPaper
     }
-    is_apart(strip, call == tally::APART_ENDLESS)
-}
 
-fn mark(marks: &mut Marks, call: usize, rows: &[u8], n: usize) {
-    let strips = rows.len() / 8;
-    let mut i = 0;
-    while i < strips {
-        put_mark(marks, i, is_sought(call, strip_at(rows, i, n)));
-        i += 1;
+    fn is_sought(&self, strip: &[u8]) -> bool {
+        stands(strip)
     }
-}
 
-fn paper_agrees(stock: &[u16], work: &mut [u8], given: u64, due: Outcome) -> bool {
-    let stepped = next_paper(stock, work, given);
-    let refusal = stepped.refusal;
-    answer_agrees(refusal, stepped.outcome, stepped.steps, due)
-}
-
-// A call on a lent strip, with what is to come of it, and the directions of the strip that it is to leave.
-fn call_agrees(
-    call: usize,
-    stock: &[u16],
-    work: &mut [u8],
-    given: u64,
-    due: Outcome,
-    directions: u8,
-) -> bool {
-    if call == tally::NEXT_PAPER {
-        return paper_agrees(stock, work, given, due);
-    }
-    let endless = call == tally::APART_ENDLESS;
-    apart_agrees(stock, work, endless, given, due, directions)
-}
-
-fn search_agrees(
-    call: usize,
-    stock: &[u16],
-    rows: &[u8],
-    start: Start,
-    given: u64,
-    work: &mut [u8],
-) -> bool {
-    let n = work.len();
-    copy(work, strip_at(rows, start.index, n));
-    let due = due(start, given);
-    let directions = directions_at(rows, due.index);
-    if !call_agrees(call, stock, work, given, due, directions) {
-        return false;
-    }
-    same(work, strip_at(rows, due.index, n))
-}
-
-fn compare_search(
-    tally: &mut Tally,
-    call: usize,
-    stock: &[u16],
-    rows: &[u8],
-    start: Start,
-    work: &mut [u8],
-) {
-    let left = steps(start.index, start.last);
-    let many = ways(work.len(), start.index);
-    let mut way: u64 = 0;
-    while way < many {
-        let given = given_steps(way, left);
-        note(
-            tally,
-            call,
-            search_agrees(call, stock, rows, start, given, work),
-        );
-        way += 1;
+    fn agrees(&self, book: &Book, strip: &mut [u8], given: u64, due: Outcome) -> bool {
+        let stepped = next_paper(book.stock, strip, given);
+        answer_agrees(stepped.refusal, stepped.outcome, stepped.steps, due)
     }
 }
 
-fn compare_searches(
-    tally: &mut Tally,
-    call: usize,
-    stock: &[u16],
-    rows: &[u8],
-    marks: &Marks,
-    work: &mut [u8],
-) {
-    let last = last(rows);
-    let strips = rows.len() / 8;
-    let mut i = 0;
-    while i < strips {
-        let index = i;
-        i += 1;
-        let next = marked_from(marks, i, strips);
-        compare_search(tally, call, stock, rows, Start { index, next, last }, work);
-    }
-}
+// At i whether the strip at i is looked for.
+type Marks = [bool; MOST];
 
-// The searches of a call in some rows, with a strip to work on.
-fn compare_rows(tally: &mut Tally, call: usize, stock: &[u16], rows: &[u8], work: &mut [u8]) {
+fn marked<S: Search>(search: &S, book: &Book) -> Marks {
     let mut marks: Marks = [false; MOST];
-    mark(&mut marks, call, rows, work.len());
-    compare_searches(tally, call, stock, rows, &marks, work);
+    for (i, mark) in marks.iter_mut().enumerate().take(book.rows.len()) {
+        *mark = search.is_sought(book.strip(i));
+    }
+    marks
 }
 
-// The searches in the dictionary of a book.
-pub fn compare_papers(
+// How many steps on from an index the next marked one stands.
+fn next_marked(marks: &Marks, i: usize) -> Option<usize> {
+    let (_, behind) = marks.get(i..)?.split_first()?;
+    behind.iter().position(|mark| *mark)?.checked_add(1)
+}
+
+fn search_agrees<S: Search>(search: &S, book: &Book, i: usize, given: u64, due: Outcome) -> bool {
+    let mut word = book.word(i);
+    search.agrees(book, &mut word[..book.blocks], given, due) && word == book.word(due.index)
+}
+
+// The searches from an index, with the steps to the next marked one.
+fn compare_from<S: Search>(
     tally: &mut Tally,
-    stock: &[u16],
-    book: &[u8],
-    order: &Order,
-    work: &mut [u8],
+    search: &S,
+    book: &Book,
+    i: usize,
+    next: Option<usize>,
 ) {
-    let mut rows: [u8; 8 * MOST] = [0; 8 * MOST];
-    put_rows(&mut rows, book, order, work.len());
-    compare_rows(
-        tally,
-        tally::NEXT_PAPER,
-        stock,
-        front(&rows, book.len()),
-        work,
-    );
+    let left = book.last().saturating_sub(i) as u64;
+    for given in given_steps(left).iter().take(ways(book.blocks, i)) {
+        let due = due(book, i, next, *given);
+        tally.note(search.call(), search_agrees(search, book, i, *given, due));
+    }
+}
+
+// The searches of a call in the rows of a book.
+fn compare_search<S: Search>(tally: &mut Tally, search: &S, book: &Book) {
+    let marks = marked(search, book);
+    for i in 0..book.rows.len() {
+        compare_from(tally, search, book, i, next_marked(&marks, i));
+    }
+}
+
+// The searches in a dictionary.
+pub fn compare_papers(tally: &mut Tally, dictionary: &Book) {
+    compare_search(tally, &Papers {}, dictionary);
 }
 
 // The searches in a book itself, for panels and for endless papers.
-pub fn compare_apart(tally: &mut Tally, stock: &[u16], book: &[u8], work: &mut [u8]) {
-    compare_rows(tally, tally::APART_PANEL, stock, book, work);
-    compare_rows(tally, tally::APART_ENDLESS, stock, book, work);
+pub fn compare_apart(tally: &mut Tally, book: &Book) {
+    compare_search(tally, &Apart { endless: false }, book);
+    compare_search(tally, &Apart { endless: true }, book);
 }

@@ -1,6 +1,6 @@
 // The calls on one strip, or none, compared with a book: Count, First, Number, Strip, Open.
 use crate::patterns::has;
-use crate::rows::same;
+use crate::rows::{Book, Word};
 use counting::count::count;
 use counting::first::first;
 use numbering::number::number;
@@ -9,72 +9,63 @@ use stock::Refusal;
 use walker::Walker;
 use walker::open::open;
 
+// Whether two refusals are the same: C's record says it of no two.
+pub fn same_refusal(one: Refusal, other: Refusal) -> bool {
+    one.no == other.no && one.place == other.place
+}
+
 // Whether a refusal has this number, and place 0.
 pub fn is(refusal: Refusal, no: u8) -> bool {
-    if refusal.no != no {
-        return false;
-    }
-    refusal.place == 0
+    same_refusal(refusal, Refusal { no, place: 0 })
 }
 
-pub fn count_agrees(stock: &[u16], strips: usize) -> bool {
-    let counted = count(stock);
-    if counted.total != strips as u64 {
-        return false;
+// Whether a refusal is the one that is to come, or none where an answer is.
+pub fn meets<T: Copy>(refusal: Refusal, due: &Result<T, Refusal>) -> bool {
+    match due {
+        Ok(_) => is(refusal, 0),
+        Err(awaited) => same_refusal(refusal, *awaited),
     }
-    let refusal = counted.refusal;
-    is(refusal, 0)
 }
 
-pub fn first_agrees(stock: &[u16], blocks: &[u8], work: &mut [u8]) -> bool {
-    let refusal = first(stock, work);
-    if !is(refusal, 0) {
-        return false;
-    }
-    same(work, blocks)
+pub fn count_agrees(book: &Book) -> bool {
+    let counted = count(book.stock);
+    counted.total == book.rows.len() as u64 && is(counted.refusal, 0)
 }
 
-pub fn number_agrees(stock: &[u16], blocks: &[u8], i: usize) -> bool {
-    let numbered = number(stock, blocks);
-    if numbered.number != i as u64 {
-        return false;
-    }
-    let refusal = numbered.refusal;
-    is(refusal, 0)
+pub fn first_agrees(book: &Book) -> bool {
+    let mut word: Word = [0; 8];
+    let refusal = first(book.stock, &mut word[..book.blocks]);
+    is(refusal, 0) && word == book.word(0)
 }
 
-pub fn strip_agrees(stock: &[u16], blocks: &[u8], i: usize, work: &mut [u8]) -> bool {
-    let refusal = strip(stock, i as u64, work);
-    if !is(refusal, 0) {
-        return false;
-    }
-    same(work, blocks)
+pub fn number_agrees(book: &Book, i: usize) -> bool {
+    let numbered = number(book.stock, book.strip(i));
+    numbered.number == i as u64 && is(numbered.refusal, 0)
+}
+
+// Whether Number reports the uses of the rule that were counted while the book was built.
+pub fn cuts_agree(book: &Book, i: usize) -> bool {
+    let numbered = number(book.stock, book.strip(i));
+    numbered.cuts == u64::from(book.cuts(i))
+}
+
+pub fn strip_agrees(book: &Book, i: usize) -> bool {
+    let mut word: Word = [0; 8];
+    let refusal = strip(book.stock, i as u64, &mut word[..book.blocks]);
+    is(refusal, 0) && word == book.word(i)
 }
 
 // Whether a walker has the directions of a strip.
-pub fn directed(walker: Walker, directions: u8) -> bool {
-    let mut j: usize = 0;
-    while j < 16 {
-        if walker.back[j] != has(directions, j) {
-            return false;
-        }
-        j += 1;
-    }
-    true
+pub fn directed(walker: &Walker, directions: u8) -> bool {
+    (0..16).all(|j: usize| walker.back[j] == has(directions, j))
 }
 
-pub fn open_agrees(stock: &[u16], blocks: &[u8], directions: u8) -> bool {
-    let opened = open(stock, blocks);
-    let refusal = opened.refusal;
-    if !is(refusal, 0) {
-        return false;
-    }
-    let walker = opened.walker;
-    directed(walker, directions)
+pub fn open_agrees(book: &Book, i: usize) -> bool {
+    let opened = open(book.stock, book.strip(i));
+    is(opened.refusal, 0) && directed(&opened.walker, book.directions(i))
 }
 
 // The walker that Open gives.
-pub fn opened_walker(stock: &[u16], blocks: &[u8]) -> Walker {
-    let opened = open(stock, blocks);
-    opened.walker
+pub fn opened_walker(stock: &[u16], strip: &[u8]) -> Walker {
+    open(stock, strip).walker
 }

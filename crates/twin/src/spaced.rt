@@ -1,49 +1,40 @@
 // Next apart compared with what is to come of it: it looks for a strip without equal neighbours, on a panel or hung endless.
-use crate::rows::block;
+use crate::rows::Book;
+use crate::search::Search;
 use crate::single::{directed, opened_walker};
 use crate::sought::{Outcome, answer_agrees};
+use crate::tally::Call;
 use spacing::next_apart::next_apart;
 
-// The kind at an index from 1 on, as the right neighbour of the place before it. Behind the last place stands the first where the strip is hung endless, and
-// else none: 0 is no kind.
-fn right_kind(strip: &[u8], endless: bool, i: usize) -> u8 {
-    if endless {
-        if i == strip.len() {
-            return block(strip, 0);
-        }
-    }
-    block(strip, i)
+// Next apart, for panels or for endless papers.
+#[derive(Clone, Copy)]
+pub struct Apart {
+    pub endless: bool,
 }
 
-// Whether no place has the same kind as its right neighbour.
-pub fn is_apart(strip: &[u8], endless: bool) -> bool {
-    let mut i = 0;
-    while i < strip.len() {
-        let kind = block(strip, i);
-        i += 1;
-        if kind == right_kind(strip, endless, i) {
-            return false;
+impl Search for Apart {
+    fn call(&self) -> Call {
+        if self.endless {
+            Call::ApartEndless
+        } else {
+            Call::ApartPanel
         }
     }
-    true
-}
 
-// Next apart on a lent strip with the walker that Open gives, and the directions of the strip that it is to leave. Where none is found that is the lent one,
-// so the walker is to be the lent one too.
-pub fn apart_agrees(
-    stock: &[u16],
-    work: &mut [u8],
-    endless: bool,
-    given: u64,
-    due: Outcome,
-    directions: u8,
-) -> bool {
-    let lent = opened_walker(stock, work);
-    let spaced = next_apart(stock, work, lent, endless, given);
-    let walker = spaced.walker;
-    if !directed(walker, directions) {
-        return false;
+    // Whether no place has the same kind as its right neighbour. Behind the last place stands the first where the strip is hung endless, and else none.
+    fn is_sought(&self, strip: &[u8]) -> bool {
+        let meets = match (strip.first(), strip.last()) {
+            (Some(first), Some(last)) => self.endless && first == last,
+            _ => false,
+        };
+        !meets && strip.windows(2).all(|pair| pair[0] != pair[1])
     }
-    let refusal = spaced.refusal;
-    answer_agrees(refusal, spaced.outcome, spaced.moves, due)
+
+    // The directions are those of the strip that the call is to leave. Where none is found that is the lent one, so the walker is to be the lent one too.
+    fn agrees(&self, book: &Book, strip: &mut [u8], given: u64, due: Outcome) -> bool {
+        let lent = opened_walker(book.stock, strip);
+        let spaced = next_apart(book.stock, strip, lent, self.endless, given);
+        directed(&spaced.walker, book.directions(due.index))
+            && answer_agrees(spaced.refusal, spaced.outcome, spaced.moves, due)
+    }
 }

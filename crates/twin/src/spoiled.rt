@@ -1,262 +1,177 @@
 // Rebuilding compared with a book, on the sheets of up to three moves from each of its strips: cut at each length, or going on behind their end; with each
 // byte spoiled in turn; and with every byte spoiled from one on.
-use crate::pressed::{MOST, ROOM, Sheet, Start, byte, put, put_sheet};
-use crate::rows::{front, last, least, same};
-use crate::tally;
-use crate::tally::{Tally, note};
+use crate::pressed::{BEFORE, Sheet};
+use crate::rows::Book;
+use crate::single::meets;
+use crate::tally::{Call, Tally};
 use reading::reader::read_sheet;
 use rebuilding::Rebuilt;
 use rebuilding::rebuild::rebuild;
 use stock::Refusal;
 
-// What stands in a second buffer before it is written, and behind the end of a sheet.
-const BEFORE: u8 = 238;
+// The most moves that are listed here, and the bytes of their sheet.
+const MOST: usize = 7;
 
-// What is to come of a sheet.
+const ROOM: usize = 83 + 3 * MOST;
+
+type Bytes = [u8; ROOM];
+
+// All that is listed of the moves from a strip: the records before them, as many of the moves as are left, at most 7, and the end; and how many are left.
 #[derive(Clone, Copy)]
-struct Outcome {
-    refusal: Refusal,
-    moves: usize,
-    differing: u64,
-    first: u64,
+struct Full {
+    sheet: Sheet<ROOM>,
+    left: usize,
 }
 
-fn refused(refusal: Refusal) -> Outcome {
-    Outcome {
-        refusal,
+// What is to come of a sheet that is rebuilt: how many moves it has, how many of them have other records in the damaged one, and the first of those, from 1.
+#[derive(Clone, Copy)]
+struct Told {
+    moves: usize,
+    differing: usize,
+    first: usize,
+}
+
+impl Told {
+    const NOTHING: Told = Told {
         moves: 0,
         differing: 0,
         first: 0,
+    };
+}
+
+type Due = Result<Told, Refusal>;
+
+impl Full {
+    // The sheet of the first moves.
+    fn sheet_of(&self, moves: usize) -> Sheet<ROOM> {
+        let mut sheet = Sheet::new();
+        sheet.put(&self.sheet.bytes[..82 + 3 * moves.min(MOST)]);
+        sheet.put_end();
+        sheet
     }
 }
 
-// The sheet of the first moves of another one.
-fn sheet_of(full: &Sheet, moves: usize) -> Sheet {
-    let end = 82 + 3 * least(moves, MOST);
-    let mut sheet: Sheet = [BEFORE; ROOM];
-    let mut i: usize = 0;
-    while i < end {
-        put(&mut sheet, i, byte(full, i));
-        i += 1;
-    }
-    put(&mut sheet, end, 4);
-    sheet
+// The records of the moves of a sheet.
+fn records(bytes: &Bytes) -> &[[u8; 3]] {
+    let (records, _) = bytes[82..].as_chunks::<3>();
+    records
 }
 
-// Whether two sheets have the same three bytes at a byte.
-fn same_record(one: &Sheet, other: &Sheet, at: usize) -> bool {
-    if ROOM < at {
-        return true;
-    }
-    if byte(one, at) != byte(other, at) {
-        return false;
-    }
-    if byte(one, at + 1) != byte(other, at + 1) {
-        return false;
-    }
-    byte(one, at + 2) == byte(other, at + 2)
-}
-
-// Which of so many moves of a sheet have other bytes in the damaged one: how many, and the first.
-fn differ(full: &Sheet, damaged: &Sheet, moves: usize) -> Outcome {
-    let mut differing: u64 = 0;
-    let mut first: u64 = 0;
-    let mut m = least(moves, MOST);
-    while 0 < m {
-        let number = m;
-        m -= 1;
-        if !same_record(full, damaged, 82 + 3 * m) {
-            differing += 1;
-            first = number as u64;
+// Which of so many moves of a sheet have other bytes in the damaged one.
+fn told_of(full: &Bytes, damaged: &Bytes, moves: usize) -> Told {
+    let mut told = Told {
+        moves,
+        ..Told::NOTHING
+    };
+    let pairs = records(full).iter().zip(records(damaged)).take(moves);
+    for (m, (right, wrong)) in pairs.enumerate() {
+        if right != wrong {
+            told.differing = told.differing.saturating_add(1);
+            if told.first == 0 {
+                told.first = m.saturating_add(1);
+            }
         }
     }
-    Outcome {
-        refusal: Refusal { no: 0, place: 0 },
-        moves,
-        differing,
-        first,
-    }
+    told
 }
 
 // The refusal of the first two records: the reader's, where it is none of the moves and the end, whose places are from byte 82 on.
-fn of_records(sheet: &[u8]) -> Refusal {
-    let readout = read_sheet(sheet, &mut [0; 64]);
-    let refusal = readout.refusal;
-    if refusal.place < 82 {
-        return refusal;
+fn check_records(sheet: &[u8]) -> Result<(), Refusal> {
+    let refusal = read_sheet(sheet, &mut [0; 64]).refusal;
+    if refusal.no != 0 && refusal.place < 82 {
+        return Err(refusal);
     }
-    Refusal { no: 0, place: 0 }
+    Ok(())
 }
 
-// What is to come of the first bytes of a damaged sheet, with so many moves left and so much room.
-fn due(full: &Sheet, left: usize, damaged: &Sheet, length: usize, room: usize) -> Outcome {
+// What is to come of the first bytes of a damaged sheet, in so much room.
+fn due(full: &Full, damaged: &Bytes, length: usize, room: usize) -> Due {
     if length < 82 {
-        return refused(Refusal { no: 11, place: 0 });
+        return Err(Refusal { no: 11, place: 0 });
     }
-    let refusal = of_records(front(damaged, length));
-    let no = refusal.no;
-    if no != 0 {
-        return refused(refusal);
+    check_records(damaged.get(..length).unwrap_or(damaged))?;
+    let moves = full.left.min((length - 82) / 3);
+    if room < 83 + 3 * moves.min(MOST) {
+        return Err(Refusal { no: 13, place: 0 });
     }
-    let moves = least((length - 82) / 3, left);
-    if room < 83 + 3 * least(moves, MOST) {
-        return refused(Refusal { no: 13, place: 0 });
-    }
-    differ(full, damaged, moves)
+    Ok(told_of(&full.sheet.bytes, damaged, moves))
 }
 
-fn answer_agrees(rebuilt: Rebuilt, due: Outcome) -> bool {
-    let refusal = rebuilt.refusal;
-    let awaited = due.refusal;
-    if refusal.no != awaited.no {
-        return false;
-    }
-    if refusal.place != awaited.place {
-        return false;
-    }
-    if rebuilt.moves != due.moves as u64 {
-        return false;
-    }
-    if rebuilt.differing != due.differing {
-        return false;
-    }
-    rebuilt.first == due.first
-}
-
-// Whether the second buffer is as it was, or has the sheet of so many moves.
-fn out_agrees(out: &Sheet, full: &Sheet, due: Outcome) -> bool {
-    let refusal = due.refusal;
-    if refusal.no != 0 {
-        return same(out, &[BEFORE; ROOM]);
-    }
-    same(out, &sheet_of(full, due.moves))
+// What is answered, and whether the second buffer has the sheet of so many moves, or where the sheet is refused, is as it was.
+fn answer_agrees(rebuilt: Rebuilt, out: &Bytes, full: &Full, due: Due) -> bool {
+    let (told, sheet) = match due {
+        Ok(told) => (told, full.sheet_of(told.moves)),
+        Err(_) => (Told::NOTHING, Sheet::new()),
+    };
+    meets(rebuilt.refusal, &due)
+        && rebuilt.moves == told.moves as u64
+        && rebuilt.differing == told.differing as u64
+        && rebuilt.first == told.first as u64
+        && *out == sheet.bytes
 }
 
 // Rebuilds the first bytes of a damaged sheet in so much room.
-fn rebuild_agrees(full: &Sheet, left: usize, damaged: &Sheet, length: usize, room: usize) -> bool {
-    if ROOM < room {
-        return false;
+fn rebuild_agrees(full: &Full, damaged: &Bytes, length: usize, room: usize) -> bool {
+    let mut out: Bytes = [BEFORE; ROOM];
+    match (damaged.get(..length), out.get_mut(..room)) {
+        (Some(sheet), Some(lent)) => {
+            let rebuilt = rebuild(sheet, lent);
+            answer_agrees(rebuilt, &out, full, due(full, damaged, length, room))
+        }
+        _ => false,
     }
-    let mut out: Sheet = [BEFORE; ROOM];
-    let rebuilt = rebuild(front(damaged, length), &mut out[0..room]);
-    let due = due(full, left, damaged, length, room);
-    if !answer_agrees(rebuilt, due) {
-        return false;
-    }
-    out_agrees(&out, full, due)
 }
 
 // Each length, with room for any sheet and with as much room as the damaged sheet takes.
-fn compare_lengths(tally: &mut Tally, full: &Sheet, left: usize, sheet: &Sheet) {
-    let mut length: usize = 0;
-    while length <= ROOM {
-        note(
-            tally,
-            tally::REBUILT_CUT,
-            rebuild_agrees(full, left, sheet, length, ROOM),
-        );
-        note(
-            tally,
-            tally::REBUILT_CUT,
-            rebuild_agrees(full, left, sheet, length, length),
-        );
-        length += 1;
+fn compare_lengths(tally: &mut Tally, full: &Full, sheet: &Bytes) {
+    for length in 0..ROOM + 1 {
+        let roomy = rebuild_agrees(full, sheet, length, ROOM);
+        tally.note(Call::RebuiltCut, roomy);
+        let narrow = rebuild_agrees(full, sheet, length, length);
+        tally.note(Call::RebuiltCut, narrow);
     }
 }
 
-// Another value: the one beside it, or one far off.
-fn other(value: u8, far: bool) -> u8 {
-    if far {
-        return 255 - value;
-    }
-    if value % 2 == 0 {
-        return value + 1;
-    }
-    value - 1
-}
-
-// A sheet with the byte at i spoiled.
-fn spoiled_at(sheet: Sheet, i: usize, far: bool) -> Sheet {
-    let mut spoiled = sheet;
-    put(&mut spoiled, i, other(byte(&sheet, i), far));
-    spoiled
-}
-
-// With every byte spoiled from one on.
-fn spoiled_from(sheet: Sheet, from: usize) -> Sheet {
-    let mut spoiled = sheet;
-    let mut i = from;
-    while i < ROOM {
-        put(&mut spoiled, i, other(byte(&sheet, i), true));
-        i += 1;
+// A sheet with every byte spoiled from one on.
+fn spoiled_from(bytes: &Bytes, from: usize) -> Bytes {
+    let mut spoiled = *bytes;
+    for byte in spoiled.iter_mut().skip(from) {
+        *byte = !*byte;
     }
     spoiled
 }
 
-// One comparison, of a spoiled sheet of so many bytes.
-fn note_sheet(
-    tally: &mut Tally,
-    call: usize,
-    full: &Sheet,
-    left: usize,
-    sheet: Sheet,
-    length: usize,
-) {
-    note(
-        tally,
-        call,
-        rebuild_agrees(full, left, &sheet, length, ROOM),
-    );
-}
-
-// The byte at i spoiled in two ways, and all bytes from there on.
-fn compare_byte(
-    tally: &mut Tally,
-    full: &Sheet,
-    left: usize,
-    sheet: Sheet,
-    length: usize,
-    i: usize,
-) {
-    let near = spoiled_at(sheet, i, false);
-    let far = spoiled_at(sheet, i, true);
-    let tail = spoiled_from(sheet, i);
-    note_sheet(tally, tally::REBUILT_BYTE, full, left, near, length);
-    note_sheet(tally, tally::REBUILT_BYTE, full, left, far, length);
-    note_sheet(tally, tally::REBUILT_TAIL, full, left, tail, length);
-}
-
-// Each byte of a sheet of so many.
-fn compare_bytes(tally: &mut Tally, full: &Sheet, left: usize, sheet: Sheet, length: usize) {
-    let mut i: usize = 0;
-    while i < length {
-        compare_byte(tally, full, left, sheet, length, i);
-        i += 1;
+// The byte at i spoiled in two ways, to the value beside it and to one far off, and all bytes from there on.
+fn compare_byte(tally: &mut Tally, full: &Full, sheet: &Sheet<ROOM>, i: usize, byte: u8) {
+    for value in [byte ^ 1, !byte] {
+        let mut spoiled = sheet.bytes;
+        if let Some(place) = spoiled.get_mut(i) {
+            *place = value;
+        }
+        let agrees = rebuild_agrees(full, &spoiled, sheet.end, ROOM);
+        tally.note(Call::RebuiltByte, agrees);
     }
-}
-
-// The sheet of up to three moves, of one with all that are left.
-fn compare_sheet(tally: &mut Tally, full: &Sheet, left: usize) {
-    let moves = least(left, 3);
-    let sheet = sheet_of(full, moves);
-    compare_lengths(tally, full, left, &sheet);
-    compare_bytes(tally, full, left, sheet, 83 + 3 * moves);
+    let tail = spoiled_from(&sheet.bytes, i);
+    let agrees = rebuild_agrees(full, &tail, sheet.end, ROOM);
+    tally.note(Call::RebuiltTail, agrees);
 }
 
 // The sheets from the strip of a number.
-pub fn compare_sheets(tally: &mut Tally, stock: &[u16], book: &[u8], number: usize, blocks: usize) {
-    let end = last(book);
-    if end < number {
-        return;
+pub fn compare_sheets(tally: &mut Tally, book: &Book, number: usize) {
+    let full = full_of(book, number);
+    let sheet = full.sheet_of(full.left.min(3));
+    compare_lengths(tally, &full, &sheet.bytes);
+    for (i, byte) in sheet.written().iter().enumerate() {
+        compare_byte(tally, &full, &sheet, i, *byte);
     }
-    let left = end - number;
-    let mut full: Sheet = [0; ROOM];
-    put_sheet(
-        &mut full,
-        stock,
-        book,
-        Start { number, blocks },
-        least(left, MOST),
-    );
-    compare_sheet(tally, &full, left);
+}
+
+fn full_of(book: &Book, number: usize) -> Full {
+    let left = book.last().saturating_sub(number);
+    let mut sheet = Sheet::opened(book.stock, book.strip(number));
+    for made in 0..left.min(MOST) {
+        sheet.put_next(book, number.saturating_add(made));
+    }
+    sheet.put_end();
+    Full { sheet, left }
 }

@@ -1,9 +1,9 @@
 // The two readers compared with what is to come of a sheet.
-use crate::editions::BEFORE;
-use crate::endings::Case;
-use crate::rows::{copy, same};
-use crate::tally;
-use crate::tally::{Tally, note};
+use crate::editions::Page;
+use crate::endings::Due;
+use crate::pressed::BEFORE;
+use crate::single::meets;
+use crate::tally::{Call, Tally};
 use following::Readout;
 use reading::reader::{read_editions, read_sheet};
 use stock::Refusal;
@@ -11,91 +11,75 @@ use stock::Refusal;
 // A buffer has some bytes more than the longest strip.
 const BUFFER: usize = 70;
 
-// The final strip in the first bytes of a buffer; where the sheet is refused nothing is laid there.
-fn laid(to: &[u8], no: u8) -> [u8; BUFFER] {
+// The final strip in the first bytes of a buffer.
+fn laid(to: &[u8]) -> [u8; BUFFER] {
     let mut buffer: [u8; BUFFER] = [BEFORE; BUFFER];
-    let n = to.len();
-    if no != 0 {
-        return buffer;
-    }
-    if n <= BUFFER {
-        copy(&mut buffer[0..n], to);
+    for (place, block) in buffer.iter_mut().zip(to) {
+        *place = *block;
     }
     buffer
 }
 
-// Whether two refusals are the same.
-pub fn same_refusal(refusal: Refusal, awaited: Refusal) -> bool {
-    if refusal.no != awaited.no {
-        return false;
-    }
-    refusal.place == awaited.place
+// What a reader answers, and the buffer that it leaves: where the sheet is refused nothing is laid there.
+fn answer_agrees(readout: Readout, buffer: &[u8; BUFFER], due: Due, to: &[u8]) -> bool {
+    let (moves, left) = match due {
+        Ok(moves) => (moves, laid(to)),
+        Err(_) => (0, [BEFORE; BUFFER]),
+    };
+    meets(readout.refusal, &due) && readout.moves == moves as u64 && *buffer == left
 }
 
-fn read(sheet: &[u8], buffer: &mut [u8], strides: bool) -> Readout {
-    if strides {
-        return read_editions(sheet, buffer);
-    }
-    read_sheet(sheet, buffer)
-}
-
-// The new reader, or the old one.
-fn read_agrees(sheet: &[u8], case: Case, to: &[u8], strides: bool) -> bool {
+// One of the readers.
+fn read_agrees<F: Fn(&[u8], &mut [u8]) -> Readout>(
+    read: F,
+    sheet: &[u8],
+    due: Due,
+    to: &[u8],
+) -> bool
+    requires { F.IsAlwaysCallable read }
+{
     let mut buffer: [u8; BUFFER] = [BEFORE; BUFFER];
-    let readout = read(sheet, &mut buffer, strides);
-    let awaited = case.refusal;
-    let refusal = readout.refusal;
-    if !same_refusal(refusal, awaited) {
-        return false;
-    }
-    if readout.moves != case.moves as u64 {
-        return false;
-    }
-    same(&buffer, &laid(to, awaited.no))
+    let readout = read(sheet, &mut buffer);
+    answer_agrees(readout, &buffer, due, to)
 }
 
 // What is to come of a sheet in the old reader: 11 at the first stride.
-fn in_edition_1(case: Case) -> Case {
-    let stride = case.stride;
-    if stride == 0 {
-        return case;
-    }
-    Case {
-        length: case.length,
-        stride,
-        refusal: Refusal {
+fn in_edition_1(page: &Page, due: Due) -> Due {
+    match page.stride {
+        Some(at) => Err(Refusal {
             no: 11,
-            place: stride as u64,
-        },
-        moves: 0,
+            place: at as u64,
+        }),
+        None => due,
     }
 }
 
 // What a sheet is counted as in the new reader.
-fn new_call(case: Case) -> usize {
-    let refusal = case.refusal;
-    let no = refusal.no;
-    match no {
-        0 => tally::READ_RIGHT,
-        7 => tally::READ_VAST,
-        11 => tally::READ_UNKNOWN,
-        12 => tally::READ_PAST,
-        _ => tally::READ_LOW,
+fn new_call(due: Due) -> Call {
+    match due {
+        Ok(_) => Call::ReadRight,
+        Err(refusal) => match refusal.no {
+            7 => Call::ReadVast,
+            11 => Call::ReadUnknown,
+            12 => Call::ReadPast,
+            _ => Call::ReadLow,
+        },
     }
 }
 
 // And in the old one.
-fn old_call(case: Case) -> usize {
-    let stride = case.stride;
-    if stride == 0 {
-        return tally::READ_SHEET;
+fn old_call(page: &Page) -> Call {
+    match page.stride {
+        Some(_) => Call::ReadSheetStride,
+        None => Call::ReadSheet,
     }
-    tally::READ_SHEET_STRIDE
 }
 
 // A sheet in both readers, with the strip to which it is to lead.
-pub fn compare_read(tally: &mut Tally, sheet: &[u8], case: Case, to: &[u8]) {
-    note(tally, new_call(case), read_agrees(sheet, case, to, true));
-    let old = in_edition_1(case);
-    note(tally, old_call(case), read_agrees(sheet, old, to, false));
+pub fn compare_read(tally: &mut Tally, page: &Page, due: Due, to: &[u8]) {
+    let sheet = page.written();
+    let agrees = read_agrees(read_editions, sheet, due, to);
+    tally.note(new_call(due), agrees);
+    let old = in_edition_1(page, due);
+    tally.note(old_call(page), read_agrees(read_sheet, sheet, old, to));
 }

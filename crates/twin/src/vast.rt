@@ -4,191 +4,137 @@
 // E(64, 60) begins with the words of E(61, 60), each with K K K after it, and they have their one K at letter 61, then at 60 and so on. So from strip 0 on
 // the last kind's first block goes one place down with every move. The book of kinds 1 and 2 ends with the last word of E(8, 4), K K K K R R R R, and has 70
 // strips. Each kind from 3 on then runs backward on a last strip whose number is odd, and ends with its first word.
-use crate::editions::{BEFORE, Page, SPACE, Spot, apart, on, opened, put_byte, put_places};
+use crate::editions::{Page, SPACE};
 use crate::endings::{ENDINGS, Stand, put_ending};
 use crate::formed::{Order, compare_room, compare_written};
 use crate::orders::compare_sheet;
+use crate::pressed::Sheet;
 use crate::tally::Tally;
 use stock::Refusal;
 
-// The kind of a block where the kinds stand in order.
-fn kind_at(i: usize) -> u8 {
-    if i < 64 {
-        return (i / 4 + 1) as u8;
-    }
-    0
+const STOCK: [u16; 16] = [4; 16];
+
+// The strip from which the moves are made.
+#[derive(Clone, Copy)]
+enum Side {
+    First,
+    Last,
 }
 
-// A block of the strip so many moves on from the first.
-fn block_after(moves: usize, i: usize) -> u8 {
-    let k = apart(60, moves);
-    if i == k {
-        return 16;
+// The kinds in order.
+fn in_order() -> [u8; 64] {
+    let mut strip: [u8; 64] = [0; 64];
+    for i in 0..64u8 {
+        strip[usize::from(i)] = i / 4 + 1;
     }
-    if 60 < i {
-        return 16;
-    }
-    if k < i {
-        return kind_at(apart(i, 1));
-    }
-    kind_at(i)
-}
-
-// A block of the last strip.
-fn block_at_end(i: usize) -> u8 {
-    if i < 4 {
-        return 2;
-    }
-    if i < 8 {
-        return 1;
-    }
-    kind_at(i)
-}
-
-fn block_of(ends: bool, moves: usize, i: usize) -> u8 {
-    if ends {
-        return block_at_end(i);
-    }
-    block_after(moves, i)
+    strip
 }
 
 // The last strip, or that so many moves on from the first.
-fn strip_of(ends: bool, moves: usize) -> [u8; 64] {
-    let mut strip: [u8; 64] = [0; 64];
-    let mut i: usize = 0;
-    while i < 64 {
-        strip[i] = block_of(ends, moves, i);
-        i += 1;
+fn strip_of(from: Side, moves: usize) -> [u8; 64] {
+    let mut strip = in_order();
+    match from {
+        Side::First => strip[60usize.saturating_sub(moves)..61].rotate_right(1),
+        Side::Last => strip[..8].rotate_left(4),
     }
     strip
 }
 
 // The smaller place of the move behind so many.
 fn low_of(made: usize) -> u8 {
-    if made < 60 {
-        return (60 - made) as u8;
-    }
-    0
+    if made < 60 { (60 - made) as u8 } else { 0 }
 }
 
-// The byte behind the records of so many moves.
-fn behind(made: usize) -> usize {
-    if made < 10 {
-        return 82 + 3 * made;
-    }
-    82
-}
-
-// The first moves of the book, each by itself.
-fn put_singles(page: &mut Page, moves: usize) {
-    let mut made: usize = 0;
-    while made < moves {
+// A page with the first moves of the book, each by itself.
+fn in_singles(from: Side, moves: usize) -> Page {
+    let mut page = Sheet::opened(&STOCK, &strip_of(from, 0));
+    for made in 0..moves {
         let low = low_of(made);
-        put_places(page, behind(made), low, std::num::wrapping_add_u8(low, 1));
-        made += 1;
+        page.put_move(low, low.saturating_add(1));
     }
+    page
 }
 
-// The form of so many moves, behind the records of the stock and a strip. Gives its length.
-fn put_form(page: &mut Page, moves: usize) -> usize {
-    put_singles(page, moves);
-    let end = behind(moves);
-    put_byte(page, end, 4);
-    on(end, 1)
+// The form of so many moves.
+fn form_of(from: Side, moves: usize) -> Page {
+    let mut page = in_singles(from, moves);
+    page.put_end();
+    page
 }
 
 // Where so many moves lead: to nothing left, or to more than a number tells. The last strip's own number is told by none, and is left at 0.
-fn stand_after(ends: bool, made: usize) -> Stand {
-    let mut left: usize = 0;
-    let mut low: u8 = 1;
-    if !ends {
-        left = 18446744073709551614;
-        low = low_of(made);
-    }
+fn stand_after(from: Side, made: usize) -> Stand {
+    let (left, low) = match from {
+        Side::First => (usize::MAX - 1, low_of(made)),
+        Side::Last => (0, 1),
+    };
     Stand {
         here: made,
         left,
         made,
         low,
-        high: std::num::wrapping_add_u8(low, 1),
+        high: low.saturating_add(1),
         numbered: false,
     }
 }
 
-// One ending behind so many moves.
-fn compare_ending(tally: &mut Tally, ends: bool, made: usize, which: usize) {
-    let mut page = opened(&[4; 16], &strip_of(ends, 0));
-    let mut form = page;
-    put_singles(&mut page, made);
-    let spot = Spot {
-        at: behind(made),
-        stride: 0,
-    };
-    let case = put_ending(&mut page, spot, stand_after(ends, made), which);
-    let length = put_form(&mut form, case.moves);
-    let to = strip_of(ends, case.moves);
-    compare_sheet(tally, &page, case, &to, &form, length);
-}
-
-fn compare_endings(tally: &mut Tally, ends: bool, made: usize) {
-    let mut which: usize = 0;
-    while which < ENDINGS {
-        compare_ending(tally, ends, made, which);
-        which += 1;
+// The endings behind so many moves.
+fn compare_endings(tally: &mut Tally, from: Side, made: usize) {
+    let draft = in_singles(from, made);
+    for which in 0..ENDINGS {
+        let mut page = draft;
+        let due = put_ending(&mut page, stand_after(from, made), which);
+        let moves = due.unwrap_or(0);
+        let to = strip_of(from, moves);
+        compare_sheet(tally, &page, due, &to, &form_of(from, moves));
     }
 }
 
 // 9 for any move from the last strip.
-fn met(ends: bool, moves: usize) -> Refusal {
-    if ends {
-        if 0 < moves {
-            return Refusal { no: 9, place: 0 };
-        }
+fn unless_left(from: Side, moves: usize) -> Result<(), Refusal> {
+    match from {
+        Side::Last if 0 < moves => Err(Refusal { no: 9, place: 0 }),
+        _ => Ok(()),
     }
-    Refusal { no: 0, place: 0 }
 }
 
 // Writing so many moves.
-fn compare_count(tally: &mut Tally, ends: bool, moves: usize) {
-    let strip = strip_of(ends, 0);
-    let mut form = opened(&[4; 16], &strip);
-    let length = put_form(&mut form, moves);
+fn compare_count(tally: &mut Tally, from: Side, moves: usize) {
     let order = Order {
+        stock: &STOCK,
+        strip: &strip_of(from, 0),
         moves: moves as u64,
-        length,
-        refusal: met(ends, moves),
     };
-    compare_written(tally, &[4; 16], &strip, order, &form);
+    let form = form_of(from, moves);
+    compare_written(tally, order, &form, unless_left(from, moves));
 }
 
 // Writing a count of moves for which no page has room.
-fn compare_large(tally: &mut Tally, ends: bool, moves: u64) {
-    let strip = strip_of(ends, 0);
+fn compare_large(tally: &mut Tally, from: Side, moves: u64) {
     let order = Order {
+        stock: &STOCK,
+        strip: &strip_of(from, 0),
         moves,
-        length: SPACE + 1,
-        refusal: Refusal { no: 0, place: 0 },
     };
-    compare_room(tally, &[4; 16], &strip, order, SPACE, &[BEFORE; SPACE]);
+    let due = Err(Refusal { no: 13, place: 0 });
+    compare_room(tally, order, SPACE, due);
 }
 
 // So few moves, written, and read from the first strip with each ending.
 fn compare_few(tally: &mut Tally) {
-    let mut moves: usize = 0;
-    while moves < 6 {
-        compare_count(tally, false, moves);
-        compare_count(tally, true, moves);
-        compare_endings(tally, false, moves);
-        moves += 1;
+    for moves in 0..6 {
+        compare_count(tally, Side::First, moves);
+        compare_count(tally, Side::Last, moves);
+        compare_endings(tally, Side::First, moves);
     }
 }
 
 // From the first strip and from the last. Three times one of the large counts, and 83, is 2^64 + 1.
 pub fn compare_vast(tally: &mut Tally) {
     compare_few(tally);
-    compare_endings(tally, true, 0);
-    compare_large(tally, false, 6148914691236517178);
-    compare_large(tally, true, 6148914691236517178);
-    compare_large(tally, false, 18446744073709551615);
-    compare_large(tally, true, 18446744073709551615);
+    compare_endings(tally, Side::Last, 0);
+    for moves in [6148914691236517178, u64::MAX] {
+        compare_large(tally, Side::First, moves);
+        compare_large(tally, Side::Last, moves);
+    }
 }

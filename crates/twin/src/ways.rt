@@ -1,114 +1,77 @@
 // Replay compared with a book on the moves of the book: the whole way on and back, parts of it, and its first moves made on other strips.
-ghost use Rattle.std.specs.Prelude.{◌≤◌};
-
-use crate::pressed::place;
 use crate::replays::{compare_list, compare_replay};
-use crate::rows::{beside, front, last, least, strip_at};
+use crate::rows::{Book, places};
 use crate::runs::number_after;
-use crate::stood::{MOST, Outcome};
-use crate::tally;
-use crate::tally::Tally;
-use stock::Refusal;
+use crate::stood::{MOST, Told};
+use crate::tally::{Call, Tally};
 
 // Puts the places of moves from the strip of a number, on or back, into a list, and after so many those of moves the other way. They are the places at which
 // two rows of the book differ, and 0 and 0 where it ends.
-fn put_moves(list: &mut [u8], book: &[u8], n: usize, from: usize, back: bool, turn: usize) {
-    let moves = list.len() / 2;
+fn put_moves(list: &mut [u8], book: &Book, from: usize, back: bool, turn: usize) {
     let mut number = from;
-    let mut made = 0;
-    while made < moves {
+    let (moves, _) = list.as_chunks_mut::<2>();
+    for (made, exchange) in moves.iter_mut().enumerate() {
         let turned = turn <= made;
-        let next = beside(book, number, back != turned);
-        let here = strip_at(book, number, n);
-        let there = strip_at(book, next, n);
-        list[2 * made] = place(here, there, false);
-        list[2 * made + 1] = place(here, there, true);
+        let next = book.beside(number, back != turned).unwrap_or(number);
+        let (low, high) = places(&book.word(number), &book.word(next));
+        *exchange = [low, high];
         number = next;
-        made += 1;
     }
 }
 
 // The smallest number that is missing where so many strips of the book stood: on from the first strip it is the next one, back from the last the first,
 // unless all stood.
-fn missing_after(book: &[u8], back: bool, stood: usize) -> usize {
-    if back {
-        if stood <= last(book) {
-            return 0;
-        }
+fn missing_after(book: &Book, back: bool, stood: usize) -> usize {
+    if back && stood < book.rows.len() {
+        0
+    } else {
+        stood
     }
-    stood
 }
 
 // So many moves on from the first strip, or back from the last.
-fn due_after(book: &[u8], back: bool, moves: usize) -> Outcome
-    requires { moves ≤ 5040 }
-{
-    let mut walked = moves;
-    if back {
-        walked = 0;
-    }
-    Outcome {
-        from: number_after(book, back, 0),
-        call: tally::REPLAY_MOVES,
-        refusal: Refusal { no: 0, place: 0 },
-        walked,
-        different: moves + 1,
-        missing: missing_after(book, back, moves + 1),
+fn due_after(book: &Book, back: bool, moves: usize) -> Told {
+    let stood = moves.saturating_add(1);
+    Told {
+        walked: if back { 0 } else { moves },
+        different: stood,
+        missing: missing_after(book, back, stood),
         to: number_after(book, back, moves),
     }
 }
 
 // From the strip of a number three moves on and back again, or back and on again.
-fn compare_part(
-    tally: &mut Tally,
-    stock: &[u16],
-    book: &[u8],
-    i: usize,
-    back: bool,
-    work: &mut [u8],
-) {
+fn compare_part(tally: &mut Tally, book: &Book, i: usize, back: bool) {
     let mut list: [u8; 12] = [0; 12];
-    put_moves(&mut list, book, work.len(), i, back, 3);
-    compare_list(tally, stock, book, i, &list, work);
+    put_moves(&mut list, book, i, back, 3);
+    compare_list(tally, book, i, &list);
 }
 
-// The largest books have so many strips that only each thirteenth number is taken.
-fn step(n: usize) -> usize
-    ensures { 1 ≤ result }
-{
-    if n <= 6 {
-        return 1;
-    }
-    13
+// For a number as many of the first moves of a list, and from its strip a part of the book, and the first moves of the list as if it were the first strip.
+fn compare_number(tally: &mut Tally, book: &Book, back: bool, list: &[u8; 10080], i: usize) {
+    let from = number_after(book, back, 0);
+    let due = Ok(due_after(book, back, i));
+    let moves = list.get(..2 * i.min(5040)).unwrap_or(list);
+    compare_replay(tally, book, from, moves, due, Call::ReplayMoves);
+    compare_part(tally, book, i, back);
+    compare_list(tally, book, i, &list[..2 * MOST]);
 }
 
-// For a number as many of the first moves of a list, where the last number has those of the whole book; and from its strip a part of the book, and the first
-// moves of the list as if it were the first strip.
-fn compare_moves(
-    tally: &mut Tally,
-    stock: &[u16],
-    book: &[u8],
-    back: bool,
-    list: &[u8],
-    work: &mut [u8],
-) {
-    let some = front(list, 2 * MOST);
-    let step = step(work.len());
-    let mut i = least(book.len() / 8, 5040);
-    while 0 < i {
-        let moves = i - 1;
-        let due = due_after(book, back, moves);
-        compare_replay(tally, stock, book, due, front(list, 2 * moves), work);
-        compare_part(tally, stock, book, moves, back, work);
-        compare_list(tally, stock, book, moves, some, work);
-        i -= least(i, step);
+// For the last number, which has the moves of the whole book, and for those before it. The largest books have so many strips that only each thirteenth number
+// is taken.
+fn compare_moves(tally: &mut Tally, book: &Book, back: bool, list: &[u8; 10080]) {
+    let step = if book.blocks <= 6 { 1 } else { 13 };
+    for left in 0..book.rows.len() {
+        if left % step == 0 {
+            compare_number(tally, book, back, list, book.last().saturating_sub(left));
+        }
     }
 }
 
 // The moves of the book on from its first strip, or back from its last.
-pub fn compare_way(tally: &mut Tally, stock: &[u16], book: &[u8], work: &mut [u8], back: bool) {
+pub fn compare_way(tally: &mut Tally, book: &Book, back: bool) {
     let mut list: [u8; 10080] = [0; 10080];
     let from = number_after(book, back, 0);
-    put_moves(&mut list, book, work.len(), from, back, 5040);
-    compare_moves(tally, stock, book, back, &list, work);
+    put_moves(&mut list, book, from, back, 5040);
+    compare_moves(tally, book, back, &list);
 }

@@ -1,6 +1,0 @@
--- Proofs. `twin::parting::reduced` is safe and ends.
-use Rattle.std.proofs.Common.{◌-◌, length}
-use Rattle.twin.proofs.parting.reduced.Given as goal
-
-abbrev pub decreases-loop-i : goal.decreases-loop-i
-decreases-loop-i l = length l.strip - l.i

@@ -1,6 +1,0 @@
--- Proofs. `twin::patterns::append` is safe and ends.
-use Rattle.std.proofs.Common.{◌-◌}
-use Rattle.twin.proofs.patterns.append.Given as goal
-
-abbrev pub decreases-loop-i : goal.decreases-loop-i
-decreases-loop-i l = l.many - l.i

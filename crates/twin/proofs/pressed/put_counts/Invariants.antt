@@ -1,6 +1,0 @@
--- Proofs. `twin::pressed::put_counts` is safe and ends.
-use Rattle.std.proofs.Common.{◌-◌}
-use Rattle.twin.proofs.pressed.put_counts.Given as goal
-
-abbrev pub decreases-loop-j : goal.decreases-loop-j
-decreases-loop-j l = 16 - l.j

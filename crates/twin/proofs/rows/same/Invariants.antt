@@ -1,6 +1,0 @@
--- Proofs. `twin::rows::same` is safe and ends.
-use Rattle.std.proofs.Common.{◌-◌, length}
-use Rattle.twin.proofs.rows.same.Given as goal
-
-abbrev pub decreases-loop-i : goal.decreases-loop-i
-decreases-loop-i l = length l.one - l.i

@@ -1,9 +1,0 @@
--- Proofs. `twin::search::compare_searches` is safe and ends.
-use Rattle.std.proofs.Common.{◌≡◌, ◌-◌, length}
-use Rattle.twin.proofs.search.compare_searches.Given as goal
-
-abbrev pub invariant-loop-i : goal.invariant-loop-i
-invariant-loop-i l = length l.work ≡ length l.initial.work
-
-abbrev pub decreases-loop-i : goal.decreases-loop-i
-decreases-loop-i l = l.strips - l.i

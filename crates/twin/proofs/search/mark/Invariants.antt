@@ -1,6 +1,0 @@
--- Proofs. `twin::search::mark` is safe and ends.
-use Rattle.std.proofs.Common.{◌-◌}
-use Rattle.twin.proofs.search.mark.Given as goal
-
-abbrev pub decreases-loop-i : goal.decreases-loop-i
-decreases-loop-i l = l.strips - l.i

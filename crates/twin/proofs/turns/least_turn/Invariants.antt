@@ -1,6 +1,0 @@
--- Proofs. `twin::turns::least_turn` is safe and ends.
-use Rattle.std.proofs.Common.{◌-◌}
-use Rattle.twin.proofs.turns.least_turn.Given as goal
-
-abbrev pub decreases-loop-i : goal.decreases-loop-i
-decreases-loop-i l = l.many - l.i
