@@ -53,7 +53,7 @@ fn put_without_move(page: &mut Page, made: usize, which: usize) -> Due {
 
 // 12 where no move is left.
 fn next_no(left: usize) -> Option<u8> {
-    if left == 0 { Some(12) } else { None }
+    (left == 0).then_some(12)
 }
 
 // A move that is cut short, that is not the next one, or that is, where one is left.

@@ -26,11 +26,7 @@ fn stood(book: &Book, strip: Word) -> (Word, Stood) {
 // The strip that Stand leaves where it answers no refusal.
 fn standing(book: &Book, strip: &Word) -> Option<Word> {
     let (word, stood) = stood(book, *strip);
-    if is(stood.refusal, 0) {
-        Some(word)
-    } else {
-        None
-    }
+    is(stood.refusal, 0).then_some(word)
 }
 
 // Two strips have the same standing strip exactly where Same paper says yes.

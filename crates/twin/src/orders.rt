@@ -88,7 +88,7 @@ fn compare_counts(tally: &mut Tally, book: &Book, number: usize) {
 
 // Every way of up to six moves.
 fn compare_moves(tally: &mut Tally, book: &Book, number: usize) {
-    for made in 0..left(book, number).min(MOST) + 1 {
+    for made in 0..=left(book, number).min(MOST) {
         compare_cuts(tally, book, number, made);
     }
 }

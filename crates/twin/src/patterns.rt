@@ -92,7 +92,7 @@ fn made(lists: &Lists, a: usize, b: usize) -> List
 fn fill(lists: &mut Lists, a: usize)
     requires { a < 8 }
 {
-    for b in 0..a + 1 {
+    for b in 0..=a {
         let list = made(lists, a, b);
         lists[a][b] = list;
     }

@@ -1,6 +1,6 @@
 // Press sheets by the document's words: the records of a stock, of a strip of its book and of the strips that follow it there. No strip is moved: the
 // places of a move are those at which two rows of the book differ.
-use crate::rows::{Book, places};
+use crate::rows::{Book, padded, places};
 
 // What stands in a buffer before it is written, and behind the end of a sheet.
 pub const BEFORE: u8 = 238;
@@ -72,10 +72,7 @@ impl<const N: usize> Sheet<N> {
 
     // The record of a strip: sixty-four blocks, with zeros after the last.
     fn put_strip(&mut self, strip: &[u8]) {
-        let mut blocks: [u8; 64] = [0; 64];
-        for (place, block) in blocks.iter_mut().zip(strip) {
-            *place = *block;
-        }
+        let blocks: [u8; 64] = padded(strip, 0);
         self.push(2);
         self.put(&blocks);
     }

@@ -136,13 +136,22 @@ pub fn exchange(strip: &mut [u8], low: u8, high: u8) -> bool {
 pub fn places(one: &Word, other: &Word) -> (u8, u8) {
     let mut low: u8 = 0;
     let mut high: u8 = 0;
-    for i in 0..8u8 {
-        if one[usize::from(i)] != other[usize::from(i)] {
-            high = i + 1;
+    for (place, (here, there)) in (1..9).zip(one.iter().zip(other)) {
+        if here != there {
+            high = place;
             if low == 0 {
-                low = high;
+                low = place;
             }
         }
     }
     (low, high)
+}
+
+// A strip in the first of N bytes, and one value in all those behind it.
+pub fn padded<const N: usize>(strip: &[u8], behind: u8) -> [u8; N] {
+    let mut bytes = [behind; N];
+    if let Some(front) = bytes.get_mut(..strip.len()) {
+        front.copy_from_slice(strip);
+    }
+    bytes
 }

@@ -1,6 +1,6 @@
 // The calls that search compared with the rows of a book: Next paper with those of a dictionary, Next apart with those of a book itself.
-use crate::rows::{Book, MOST};
-use crate::sought::{Outcome, answer_agrees, due, given_steps, ways};
+use crate::rows::Book;
+use crate::sought::{Outcome, answer_agrees, due, given_steps, steps_to, ways};
 use crate::spaced::Apart;
 use crate::tally::{Call, Tally};
 use crate::turns::stands;
@@ -37,29 +37,12 @@ impl Search for Papers {
     }
 }
 
-// At i whether the strip at i is looked for.
-type Marks = [bool; MOST];
-
-fn marked<S: Search>(search: &S, book: &Book) -> Marks {
-    let mut marks: Marks = [false; MOST];
-    for (i, mark) in marks.iter_mut().enumerate().take(book.rows.len()) {
-        *mark = search.is_sought(book.strip(i));
-    }
-    marks
-}
-
-// How many steps on from an index the next marked one stands.
-fn next_marked(marks: &Marks, i: usize) -> Option<usize> {
-    let (_, behind) = marks.get(i..)?.split_first()?;
-    behind.iter().position(|mark| *mark)?.checked_add(1)
-}
-
 fn search_agrees<S: Search>(search: &S, book: &Book, i: usize, given: u64, due: Outcome) -> bool {
     let mut word = book.word(i);
     search.agrees(book, &mut word[..book.blocks], given, due) && word == book.word(due.index)
 }
 
-// The searches from an index, with the steps to the next marked one.
+// The searches from an index, with the next one that is looked for.
 fn compare_from<S: Search>(
     tally: &mut Tally,
     search: &S,
@@ -67,18 +50,22 @@ fn compare_from<S: Search>(
     i: usize,
     next: Option<usize>,
 ) {
-    let left = book.last().saturating_sub(i) as u64;
+    let left = steps_to(i, book.last());
     for given in given_steps(left).iter().take(ways(book.blocks, i)) {
         let due = due(book, i, next, *given);
-        tally.note(search.call(), search_agrees(search, book, i, *given, due));
+        let agrees = search_agrees(search, book, i, *given, due);
+        tally.note(search.call(), agrees);
     }
 }
 
-// The searches of a call in the rows of a book.
+// The searches of a call in the rows of a book, from the last to the first.
 fn compare_search<S: Search>(tally: &mut Tally, search: &S, book: &Book) {
-    let marks = marked(search, book);
-    for i in 0..book.rows.len() {
-        compare_from(tally, search, book, i, next_marked(&marks, i));
+    let mut next: Option<usize> = None;
+    for i in (0..book.rows.len()).rev() {
+        compare_from(tally, search, book, i, next);
+        if search.is_sought(book.strip(i)) {
+            next = Some(i);
+        }
     }
 }
 

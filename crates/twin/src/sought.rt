@@ -4,7 +4,7 @@ use crate::single::is;
 use stock::Refusal;
 
 // How a search ends, by the numbers that the calls answer: a marked strip is found, none is left, or the given steps end.
-#[derive(Clone, Copy, PartialEq, Eq)]
+#[derive(Clone, Copy)]
 pub enum Ending {
     Found = 1,
     NoneLeft = 2,
@@ -19,27 +19,31 @@ pub struct Outcome {
     pub index: usize,
 }
 
-// What is to come of a search from an index, where the next marked one is so many steps on: found where the steps reach it; none left where there is none, and
-// they reach the last; else stopped.
+// The steps from an index to a later one.
+pub fn steps_to(from: usize, to: usize) -> u64 {
+    to.saturating_sub(from) as u64
+}
+
+// What is to come of a search from an index, with the next marked one: found where the steps reach it; none left where there is none, and they reach the last;
+// else stopped.
 pub fn due(book: &Book, index: usize, next: Option<usize>, given: u64) -> Outcome {
-    let left = book.last().saturating_sub(index) as u64;
-    let stopped = Outcome {
-        ending: Ending::Stopped,
-        steps: given,
-        index,
-    };
+    let left = steps_to(index, book.last());
     match next {
-        Some(steps) if steps as u64 <= given => Outcome {
+        Some(next) if steps_to(index, next) <= given => Outcome {
             ending: Ending::Found,
-            steps: steps as u64,
-            index: index.saturating_add(steps),
+            steps: steps_to(index, next),
+            index: next,
         },
         None if left <= given => Outcome {
             ending: Ending::NoneLeft,
             steps: left,
             index,
         },
-        _ => stopped,
+        _ => Outcome {
+            ending: Ending::Stopped,
+            steps: given,
+            index,
+        },
     }
 }
 

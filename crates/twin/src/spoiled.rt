@@ -124,7 +124,7 @@ fn rebuild_agrees(full: &Full, damaged: &Bytes, length: usize, room: usize) -> b
 
 // Each length, with room for any sheet and with as much room as the damaged sheet takes.
 fn compare_lengths(tally: &mut Tally, full: &Full, sheet: &Bytes) {
-    for length in 0..ROOM + 1 {
+    for length in 0..=ROOM {
         let roomy = rebuild_agrees(full, sheet, length, ROOM);
         tally.note(Call::RebuiltCut, roomy);
         let narrow = rebuild_agrees(full, sheet, length, length);

@@ -17,7 +17,7 @@ impl Parts {
 
     // One block more of the last kind.
     fn add(&mut self) {
-        if let Some(count) = self.counts[..].get_mut(self.kinds.wrapping_sub(1)) {
+        if let Some(count) = self.counts.iter_mut().take(self.kinds).last() {
             *count = count.saturating_add(1);
         }
     }

@@ -37,12 +37,12 @@ fn walked(book: &Book, stood: &[Word]) -> usize {
 // What is told of the strips that stood: how many strips of the book are among them, and the first number of one that is not, or else the total.
 fn told_of(book: &Book, stood: &[Word], last: &Word) -> Told {
     let strips = book.rows.len();
-    let is_missing = |number: &usize| !stood.contains(&book.word(*number));
-    let missing = (0..strips).find(is_missing);
-    let many = (0..strips).filter(is_missing).count();
+    let rows = book.rows.iter();
+    let different = rows.filter(|row| stood.contains(&row.word)).count();
+    let missing = book.rows.iter().position(|row| !stood.contains(&row.word));
     Told {
         walked: walked(book, stood),
-        different: strips.saturating_sub(many),
+        different,
         missing: missing.unwrap_or(strips),
         to: book.position(last).unwrap_or(strips),
     }

@@ -2,6 +2,7 @@
 use crate::editions::Page;
 use crate::endings::Due;
 use crate::pressed::BEFORE;
+use crate::rows::padded;
 use crate::single::meets;
 use crate::tally::{Call, Tally};
 use following::Readout;
@@ -11,19 +12,10 @@ use stock::Refusal;
 // A buffer has some bytes more than the longest strip.
 const BUFFER: usize = 70;
 
-// The final strip in the first bytes of a buffer.
-fn laid(to: &[u8]) -> [u8; BUFFER] {
-    let mut buffer: [u8; BUFFER] = [BEFORE; BUFFER];
-    for (place, block) in buffer.iter_mut().zip(to) {
-        *place = *block;
-    }
-    buffer
-}
-
-// What a reader answers, and the buffer that it leaves: where the sheet is refused nothing is laid there.
+// What a reader answers, and the buffer that it leaves: the final strip in its first bytes, or where the sheet is refused, what stood there.
 fn answer_agrees(readout: Readout, buffer: &[u8; BUFFER], due: Due, to: &[u8]) -> bool {
     let (moves, left) = match due {
-        Ok(moves) => (moves, laid(to)),
+        Ok(moves) => (moves, padded(to, BEFORE)),
         Err(_) => (0, [BEFORE; BUFFER]),
     };
     meets(readout.refusal, &due) && readout.moves == moves as u64 && *buffer == left
@@ -69,9 +61,10 @@ fn new_call(due: Due) -> Call {
 
 // And in the old one.
 fn old_call(page: &Page) -> Call {
-    match page.stride {
-        Some(_) => Call::ReadSheetStride,
-        None => Call::ReadSheet,
+    if page.stride.is_some() {
+        Call::ReadSheetStride
+    } else {
+        Call::ReadSheet
     }
 }
 

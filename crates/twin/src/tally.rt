@@ -2,7 +2,7 @@
 use std::io;
 
 // What is compared. Count is compared once a stock, and Number once a strip.
-#[derive(Clone, Copy, PartialEq, Eq)]
+#[derive(Clone, Copy)]
 pub enum Call {
     Count,
     First,

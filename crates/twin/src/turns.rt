@@ -1,15 +1,6 @@
 // The turns of a strip by the rule itself: each is written down as a whole, and whole turns are compared. They stand in a row: first the strip as it stands,
 // turned by 0 to n - 1 places, and then the strip read backwards, turned by as many. So the first of the smallest is the one that Stand is to take.
-use crate::rows::Word;
-
-// A strip of at most 8 blocks, and zeros behind it.
-fn word_of(strip: &[u8]) -> Word {
-    let mut word: Word = [0; 8];
-    for (place, block) in word.iter_mut().zip(strip) {
-        *place = *block;
-    }
-    word
-}
+use crate::rows::{Word, padded};
 
 // A turn of a strip: whether that is read backwards, its last block first, and by how many places it is then turned.
 #[derive(Clone, Copy)]
@@ -20,22 +11,15 @@ pub struct Turn {
 
 // The turn at an index of the row of a strip of n blocks.
 pub fn turn_at(n: usize, i: usize) -> Turn {
-    if i < n {
-        Turn {
-            reversed: false,
-            places: i,
-        }
-    } else {
-        Turn {
-            reversed: true,
-            places: i - n,
-        }
+    Turn {
+        reversed: n <= i,
+        places: if i < n { i } else { i - n },
     }
 }
 
 // A strip so turned: the first blocks, in order, to the end.
 fn turned(strip: &[u8], turn: Turn) -> Word {
-    let mut word = word_of(strip);
+    let mut word: Word = padded(strip, 0);
     if let Some(blocks) = word.get_mut(..strip.len()) {
         if turn.reversed {
             blocks.reverse();
@@ -71,5 +55,5 @@ pub fn is_turn(first: &[u8], second: &Word) -> bool {
 
 // Whether a strip is the smallest of its turns.
 pub fn stands(strip: &[u8]) -> bool {
-    word_at(strip, least_turn(strip)) == word_of(strip)
+    word_at(strip, least_turn(strip)) == padded(strip, 0)
 }

@@ -21,11 +21,11 @@ enum Side {
     Last,
 }
 
-// The kinds in order.
+// The kinds in order, each with its four blocks.
 fn in_order() -> [u8; 64] {
     let mut strip: [u8; 64] = [0; 64];
-    for i in 0..64u8 {
-        strip[usize::from(i)] = i / 4 + 1;
+    for (kind, blocks) in (1..17).zip(strip.chunks_exact_mut(4)) {
+        blocks.fill(kind);
     }
     strip
 }
