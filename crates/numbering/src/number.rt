@@ -1,10 +1,14 @@
 // Number: the strip's place in the book of its stock, and the cuts for all its kinds.
-ghost use Rattle.std.specs.Prelude.{◌≡◌};
-ghost use Rattle.numbering.specs.Answers.{number_answer};
+ghost use Rattle.std.specs.Prelude.{◌≡◌, IfOk};
+ghost use Rattle.rules.specs.Book.{book, place_in};
+ghost use Rattle.rules.specs.Refusals.{first_of};
+ghost use Rattle.cuts.specs.Cuts.{strip_cuts};
+ghost use Rattle.stock.specs.Refused.{told};
+ghost use Rattle.numbering.specs.Answers.{number_nos, number_answer};
 
-use crate::numbers::number_of;
+use crate::numbers::{Placed, number_of};
 use counting::{patterns_of, total_of};
-use stock::{Refusal, check_strip};
+use stock::{Reason, Refusal, Refused, check_strip};
 
 // What Number answers.
 #[repr(C)]
@@ -15,32 +19,30 @@ pub struct Numbered {
     pub cuts: u64,
 }
 
+// The place and the cuts of a strip that is accepted, where its book can be numbered.
+fn placed(stock: &[u16], strip: &[u8]) -> Result<Placed, Refused>
+    ensures { (told result ≡ first_of (number_nos stock.now strip.now)) × IfOk result (λ p. (p.number ≡ place_in (book stock.now) strip.now) × (p.cuts ≡ strip_cuts stock.now strip.now)) }
+{
+    check_strip(stock, strip)?;
+    let patterns = patterns_of(stock);
+    total_of(&patterns, stock).ok_or(Reason::Many)?;
+    Ok(number_of(&patterns, stock, strip))
+}
+
 // The strip's place in the book of its stock, and the cuts for all its kinds.
 pub fn number(stock: &[u16], strip: &[u8]) -> Numbered
     ensures { result ≡ number_answer stock.now strip.now }
 {
-    let checked = check_strip(stock, strip);
-    let no = checked.no;
-    if no != 0 {
-        return Numbered {
-            refusal: checked,
+    match placed(stock, strip) {
+        Ok(found) => Numbered {
+            refusal: Refusal::NONE,
+            number: found.number,
+            cuts: u64::from(found.cuts),
+        },
+        Err(refused) => Numbered {
+            refusal: refused.into(),
             number: 0,
             cuts: 0,
-        };
-    }
-    let patterns = patterns_of(stock);
-    let strips = total_of(&patterns, stock);
-    if strips == 0 {
-        return Numbered {
-            refusal: Refusal { no: 7, place: 0 },
-            number: 0,
-            cuts: 0,
-        };
-    }
-    let found = number_of(&patterns, stock, strip);
-    Numbered {
-        refusal: Refusal { no: 0, place: 0 },
-        number: found.number,
-        cuts: found.cuts as u64,
+        },
     }
 }

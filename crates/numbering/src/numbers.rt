@@ -33,14 +33,11 @@ pub fn number_of(patterns: &[u64; 16], stock: &[u16], strip: &[u8]) -> Placed
     let mut number: u64 = 0;
     let mut cuts: u32 = 0;
     let mut below: usize = 0;
-    let mut j: usize = 0;
-    while j < stock.len() {
-        let many = patterns[j];
-        j += 1;
-        let kind = j as u8;
+    for (j, many) in patterns[..stock.len()].iter().enumerate() {
+        let kind = (j + 1) as u8;
         let n = reduce(strip, kind, &mut word);
-        let found = index_of(many, &word[..n], kind, below);
-        number = numbered_by(many, number, found.index);
+        let found = index_of(*many, &word[..n], kind, below);
+        number = numbered_by(*many, number, found.index);
         cuts += found.cuts;
         below = n;
     }

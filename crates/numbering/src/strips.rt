@@ -16,12 +16,10 @@ fn indices_of(patterns: &[u64; 16], stock: &[u16], number: u64) -> [u64; 16]
 {
     let mut indices = [0; 16];
     let mut left = number;
-    let mut j = stock.len();
-    while 0 < j {
-        j -= 1;
+    for j in (0..stock.len()).rev() {
         let many = patterns[j];
         let place = left % many;
-        left = left / many;
+        left /= many;
         indices[j] = faced(left % 2 == 1, many, place);
     }
     indices
@@ -34,13 +32,10 @@ pub fn strip_of(patterns: &[u64; 16], stock: &[u16], number: u64, strip: &mut [u
 {
     let indices = indices_of(patterns, stock, number);
     let mut below: usize = 0;
-    let mut j: usize = 0;
-    while j < stock.len() {
-        let n = below + stock[j] as usize;
-        let many = patterns[j];
-        let index = indices[j];
-        j += 1;
-        lay_at(many, &mut strip[..n], below, j as u8, index);
+    for (j, count) in stock.iter().enumerate() {
+        let n = below + usize::from(*count);
+        let kind = (j + 1) as u8;
+        lay_at(patterns[j], &mut strip[..n], below, kind, indices[j]);
         below = n;
     }
 }

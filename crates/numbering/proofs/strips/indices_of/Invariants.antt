@@ -1,4 +1,4 @@
--- `numbering::strips::indices_of` meets its contract. The measure is the number of kinds that are left.
+-- `numbering::strips::indices_of` meets its contract.
 use mathlib.Core.List.{[]}
 use lib.ListN.{get_or}
 use Rattle.rules.specs.Book.{book}
@@ -7,6 +7,3 @@ use Rattle.numbering.proofs.strips.indices_of.Given as goal
 
 abbrev pub invariant-loop-j : goal.invariant-loop-j
 invariant-loop-j l = Descending l.stock (get_or (book l.stock) l.number []) l.indices l.left l.j
-
-abbrev pub decreases-loop-j : goal.decreases-loop-j
-decreases-loop-j l = l.j

@@ -1,12 +1,6 @@
 -- `numbering::strips::strip_of` meets its contract.
-use Prim.Native.Nat.{◌-◌}
-use lib.ListN.{length}
-use Rattle.rules.proofs.Rising as rising
 use Rattle.numbering.proofs.Layers.{Layered}
 use Rattle.numbering.proofs.strips.strip_of.Given as goal
 
 abbrev pub invariant-loop-j : goal.invariant-loop-j
 invariant-loop-j l = Layered l.stock l.number l.strip l.below l.j
-
-abbrev pub decreases-loop-j : goal.decreases-loop-j
-decreases-loop-j l = length l.stock - l.j
