@@ -2,6 +2,5 @@
 #![tactic(auto)]
 
 mod runs;
-mod steps;
+pub mod steps;
 
-pub use steps::step_left;

@@ -1,12 +1,14 @@
 -- Proofs. One turn of finding the move, in the terms of the code: j kinds are left, kind j's direction is read from the walker, and its own step is tested.
 use Prim.Native.Nat.{ℕ, zero, suc, ◌+◌, ◌-◌, ◌≤◌, ◌<◌}
-use mathlib.Core.Path.{◌≡◌, refl, ap, ◌∙◌}
+use mathlib.Core.Path.{◌≡◌, refl, ◌∙◌}
 use mathlib.Core.Bool.{Bool, true, false}
-use mathlib.Core.Option.{Option, none, some}
+use mathlib.Core.Option as maybe
+use mathlib.Core.Option.{none, some}
 use mathlib.Core.List.{List}
 use native.Mathlib.Omega.{arith}
 use borrow.Author.Tests.{le-leb}
 use lib.ListN.{length, get_or, take, drop}
+use Rattle.std.proofs.Common.{Some, None}
 use Rattle.rules.specs.Book.{backward}
 use Rattle.rules.proofs.Listed.{flip}
 use Rattle.rules.proofs.Strips.{move_of}
@@ -19,13 +21,13 @@ use Rattle.walker.proofs.ByKind.{walker_to_lem, to_at}
 use Rattle.walking.specs.Checked.{Checked, found}
 
 -- a step that was found, and one that was not
-step_some : (o : Option (ℕ × ℕ)) (m : Step) → m ≡ step o → m.found ≡ true → o ≡ some (m.low, m.high)
-step_some none m e f = let z : ◌≡◌ {A = ℕ} 0 1 = cc (ap (λ (m : Step). m.found) e) in absurd (omega arith)
-step_some (some pq) m e f = rw e
+step_some : (o : maybe.Option (ℕ × ℕ)) (m : Step) → Some m ≡ step o → o ≡ some (m.low, m.high)
+step_some none m e = cc
+step_some (some pq) m e = let f : m ≡ record { low = pq.0; high = pq.1 } = cc in rw f
 
-step_none : (o : Option (ℕ × ℕ)) (m : Step) → m ≡ step o → m.found ≡ false → o ≡ none
-step_none none m e f = refl
-step_none (some pq) m e f = let z : ◌≡◌ {A = ℕ} 0 1 = cc (ap (λ (m : Step). m.found) e) in absurd (omega arith)
+step_none : (o : maybe.Option (ℕ × ℕ)) → None ≡ step o → o ≡ none
+step_none none e = refl
+step_none (some pq) e = cc
 
 -- the direction that a walker holds for a kind
 direction_at : (counts s : List ℕ) (w : Walker) → Checked counts s w → (i : ℕ) → i < length counts → get_or w.back i false ≡ backward counts (suc i) s
@@ -38,13 +40,13 @@ pub record Turn (back : Bool) (counts s : List ℕ) (f : Bool) (j i lo hi : ℕ)
   pub fits : lo + get_or counts i 0 ≤ hi
   pub short : length (take (hi - lo) (drop lo s)) ≤ 64
   pub others : hi - lo - get_or counts i 0 ≡ rests j (take (hi - lo) (drop lo s))
-  pub moves : (m : Step) → m ≡ step_of f j (take (hi - lo) (drop lo s)) → m.found ≡ true
-      → (lo + m.low < length s) × (lo + m.high < length s) × (record { kind = j; low = lo + m.low; high = lo + m.high } ≡ found (length counts) (move_of back counts s))
-  pub past_front : (m : Step) → m ≡ step_of f j (take (hi - lo) (drop lo s)) → m.found ≡ false → f ≡ false → Descent back counts s i (lo + get_or counts i 0) hi
-  pub past_back : (m : Step) → m ≡ step_of f j (take (hi - lo) (drop lo s)) → m.found ≡ false → f ≡ true → Descent back counts s i lo (hi - get_or counts i 0)
+  pub moves : (m : Step) → Some m ≡ step_of f j (take (hi - lo) (drop lo s))
+      → (lo + m.low < length s) × (lo + m.high < length s) × (Some (record { kind = j; low = lo + m.low; high = lo + m.high }) ≡ found (length counts) (move_of back counts s))
+  pub past_front : None ≡ step_of f j (take (hi - lo) (drop lo s)) → f ≡ false → Descent back counts s i (lo + get_or counts i 0) hi
+  pub past_back : None ≡ step_of f j (take (hi - lo) (drop lo s)) → f ≡ true → Descent back counts s i lo (hi - get_or counts i 0)
 
 pub turn : (back : Bool) (counts s : List ℕ) (w : Walker) → Checked counts s w → (j lo hi : ℕ) → 0 < j → Descent back counts s j lo hi
-    → (f : Bool) → f ≡ flip (get_or w.back (j - 1) false) back → Turn back counts s f j (j - 1) lo hi
+    → (f : Bool) → f ≡ flip (get_or w.back (j - 1) false) back → Turn back counts s f (j - 1 + 1) (j - 1) lo hi
 turn back counts s w v zero lo hi p h f is = absurd (omega arith)
 turn back counts s w v (suc i) lo hi p h f is =
     let l : i < length counts = omega (arith, h.kinds) in
@@ -55,11 +57,12 @@ turn back counts s w v (suc i) lo hi p h f is =
       fits = fits back counts s v.strip i lo hi l h;
       short = omega (arith, short back counts s v.strip i lo hi l h, v.stock.short);
       others = others back counts s v.strip i lo hi l h;
-      moves = λ m is g.
-          let r = kind_moves back counts s v.strip i lo hi l h m.low m.high (step_some _ m is g) in
+      moves = λ m is.
+          let r = kind_moves back counts s v.strip i lo hi l h m.low m.high (step_some _ m is) in
           let b = move_inside back counts s v.strip _ r in
           (omega (arith, b.0, b.1), b.1, rw (r, k));
-      past_front = λ m is g. past_front back counts s v.strip i lo hi l h (step_none _ m is g);
-      past_back = λ m is g. past_back back counts s v.strip i lo hi l h (step_none _ m is g);
+      past_front = λ is. past_front back counts s v.strip i lo hi l h (step_none _ is);
+      past_back = λ is. past_back back counts s v.strip i lo hi l h (step_none _ is);
     } in
-    rw (e, g) t
+    let one : suc i - 1 + 1 ≡ suc i = omega arith in
+    rw (one, e, g) t

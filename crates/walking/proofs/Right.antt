@@ -73,7 +73,7 @@ module _ (d : Bool) (counts s : List ℕ) (w : Walker) where
       own = (rows (sym no_is ∙ z)).0.1
 
       has : 0 < left_along d counts s
-      has = some_left d counts s (end_none counts s d (rows (sym no_is ∙ z)).2)
+      has = some_left d counts s (end_none d counts s (rows (sym no_is ∙ z)).2)
 
       strip_is : t ≡ beside d counts s
       unfolding move_strip

@@ -3,7 +3,4 @@ use Rattle.rules.proofs.Descent.{Descent}
 use Rattle.walking.proofs.finding.find_by.Given as goal
 
 abbrev pub invariant-loop-j : goal.invariant-loop-j
-invariant-loop-j l = Descent l.back l.stock l.strip l.j l.lo l.hi
-
-abbrev pub decreases-loop-j : goal.decreases-loop-j
-decreases-loop-j l = l.j
+invariant-loop-j g l = Descent l.back l.stock l.strip l.j l.lo l.hi

@@ -1,26 +1,14 @@
--- `walking::walk::walk` meets its contract: 1 to 6 and 10 refuse, or what was found decides.
-use native.Mathlib.Omega.{arith}
-use Rattle.walking.specs.Checked.{Checked}
-use Rattle.walking.proofs.Called.{refused, checked, decided}
-use Rattle.std.proofs.Common.{rules}
+-- `walking::walk::walk` meets its contract: the move that was made, or why there is none.
+use mathlib.Core.Path.{ap, ◌∙◌}
+use Rattle.stock.specs.declared.refused.Refusal.{Refusal}
+use Rattle.walking.specs.declared.Moved.{Moved}
+use Rattle.walking.proofs.Called.{walk_refused, walk_moved}
 use Rattle.walking.proofs.walk.walk.Goals as goal
-use Rattle.walking.proofs.walk.walk.Goals.{Else-no-ne0}
 
--- none of 1 to 6 and 10 refuses
-ready : (c : Else-no-ne0) → let a = c.args in Checked a.stock.now a.strip.now a.walker
-ready c = checked _ _ _ _ c.check_walker-refusal.ensures (search rules) (omega arith)
+pub returns-in-Ok : goal.returns-in-Ok
+returns-in-Ok c = (walk_moved c.args.back _ _ _ c.in-Ok.ensures.refused _ c.in-Ok.ensures.made, c.in-Ok.ensures.left)
 
-pub returns-then-no-ne0 : goal.returns-then-no-ne0
-returns-then-no-ne0 c =
-    let a = c.args in
-    refused a.back _ _ _ _ c.check_walker-refusal.ensures (omega arith)
-
-pub returns : goal.returns
-returns c =
-    decided c.args.back _ _ _ _ c.check_walker-refusal.ensures _ _ (c.make_any.ensures _ c.find_by_rule-m.ensures) (omega arith)
-
-pub find_by_rule-m-requires : goal.find_by_rule-m-requires
-find_by_rule-m-requires c = ready (goal.at.find_by_rule-m-requires c).Else-no-ne0
-
-pub make_any-requires : goal.make_any-requires
-make_any-requires c = (ready (goal.at.make_any-requires c).Else-no-ne0, (_, c.find_by_rule-m.ensures))
+pub returns-in-Err : goal.returns-in-Err
+returns-in-Err c =
+    let refused : Refusal → Moved = λ r. record { refusal = r; low = 0; high = 0; walker = c.args.walker } in
+    (ap refused c.into.ensures ∙ walk_refused c.args.back _ _ _ _ c.in-Err.ensures.refused, c.in-Err.ensures.left)
