@@ -1,14 +1,19 @@
 -- Proofs. The lent strip that Earlier hands back, by what Which answers: 0 is a refusal, and nothing else is.
 use Prim.Native.Nat.{ℕ, zero, suc}
-use mathlib.Core.Path.{◌≡◌, sym, ◌∙◌}
+use mathlib.Core.Path.{◌≡◌, refl, sym, ap, ◌∙◌}
 use mathlib.Core.List.{List}
 use native.Mathlib.Omega.{arith}
-use borrow.Author.Tests.{eq-eqb, ne_eqb}
 use Rattle.rules.specs.Book.{book, place_in}
-use Rattle.rules.specs.Refusals.{No, first_of, unless, pair_nos}
+use Rattle.rules.specs.Refusals.{No, fine, first_of, unless, pair_nos}
+use Rattle.std.specs.Prelude.{Option, Some, None}
+use Rattle.stock.specs.declared.refused.Refused.{Refused}
+use Rattle.stock.specs.Refused.{no_of}
 use Rattle.comparing.specs.Order.{which_of}
-use Rattle.comparing.specs.Answers.{Lent, EmptyPart, named, IsEarlier}
-use Rattle.comparing.proofs.Numbers.{which_some}
+use Rattle.comparing.specs.declared.order.Parting.{Parting}
+use Rattle.comparing.specs.declared.which.Compared.{Compared}
+use Rattle.comparing.specs.Answers.{Lent, EmptyPart, named, IsEarlier, as_compared, which_answer}
+use Rattle.comparing.specs.Parted.{which_number, kind_number}
+use Rattle.comparing.proofs.Numbers.{which_some, ahead_range}
 
 -- a value that is never 0, or 0 where refused: it tells whether the call was refused
 module _ (A B : Type 0) (v w : ℕ) (some : v ≡ 0 → ⊥) where
@@ -27,17 +32,17 @@ module _ (counts : List ℕ) (first second : Lent) where
   abbrev pub refused : No
   refused = first_of (pair_nos counts first.now second.now)
 
-  module _ (w : ℕ) (is : w ≡ unless refused 0 order) where
-    pub handed_none : w ≡ 0 → (r : Lent) → EmptyPart first r → IsEarlier counts first second r
-    unfolding IsEarlier
-    handed_none h r = told_refused (EmptyPart first r) (r ≡ named order first second) order w (which_some _ _) refused is h
+  -- a refusal
+  module _ (e : Refused) (is : as_compared (no_of e) 0 0 ≡ which_answer counts first.now second.now) where
+    pub handed_none : (r : Lent) → EmptyPart first r → IsEarlier counts first second r
+    unfolding IsEarlier which_answer
+    handed_none r = told_refused (EmptyPart first r) (r ≡ named order first second) order 0 (which_some _ _) refused (ap (λ (r : Compared). r.which) is) refl
 
-    handed_over : (w ≡ 0 → ⊥) → (r : Lent) → (w ≡ order → r ≡ named order first second) → IsEarlier counts first second r
-    unfolding IsEarlier
-    handed_over h r = told_passed (EmptyPart first r) (r ≡ named order first second) order w (which_some _ _) refused is h
+  -- or which stands ahead, which is never 0
+  some : (parted : Option Parting) → which_number parted ≡ 0 → ⊥
+  some (Some p) h = omega (arith, ahead_range p.ahead, h)
+  some None h = absurd (omega arith)
 
-    pub handed_second : w ≡ 2 → IsEarlier counts first second second
-    handed_second h = handed_over (omega arith) second (λ e. rw (eq-eqb order 2 (sym e ∙ h)))
-
-    pub handed_first : (w ≡ 0 → ⊥) → (w ≡ 2 → ⊥) → IsEarlier counts first second first
-    handed_first h k = handed_over h first (λ e. rw (ne_eqb order 2 (λ f. k (e ∙ f))))
+  pub handed_named : (parted : Option Parting) → as_compared fine (which_number parted) (kind_number parted) ≡ which_answer counts first.now second.now → (r : Lent) → r ≡ named (which_number parted) first second → IsEarlier counts first second r
+  unfolding IsEarlier which_answer
+  handed_named parted is r e = told_passed (EmptyPart first r) (r ≡ named order first second) order (which_number parted) (which_some _ _) refused (ap (λ (r : Compared). r.which) is) (some parted) (λ f. rw f at e)

@@ -7,7 +7,7 @@ use native.Mathlib.Omega.{arith}
 use lib.ListN.{length, get_or, take, drop, drop_of_length-le}
 use Rattle.rules.specs.Stock.{sum, binom, IsStock, IsStrip}
 use Rattle.rules.specs.Book.{odd, reduced, book, place_in}
-use Rattle.rules.specs.Refusals.{fine, smallest_from}
+use Rattle.rules.specs.Refusals.{smallest_from}
 use Rattle.rules.proofs.Smallest.{smallest_here, smallest_on}
 use Rattle.rules.proofs.Listed.{differs, face}
 use Rattle.rules.proofs.Snake.{numbered}
@@ -19,7 +19,6 @@ use Rattle.rules.proofs.Upward as upward
 use Rattle.rules.proofs.Upward.{Upward}
 use Rattle.comparing.specs.Order.{which_of, is_parted, parting_kind}
 use Rattle.comparing.specs.Along.{which_along}
-use Rattle.comparing.specs.Answers.{as_compared}
 use Rattle.comparing.proofs.Numbers.{which_equal, only_equal}
 use Rattle.comparing.proofs.LetterByLetter.{along_moved, along_faced}
 use Rattle.comparing.proofs.Ahead.{same_number, decides}
@@ -94,8 +93,8 @@ module _ {counts s t : List ℕ} {before : Bool} {below j : ℕ} (l : Level coun
         parts_now : j + 1 ≡ parting_kind counts s t
         parts_now = sym (smallest_here (is_parted s t) (j + 1) counts j h (parted_yes s t (j + 1) differ)) ∙ l.parts
 
-        pub parted : as_compared fine order (j + 1) ≡ as_compared fine (which_of (place_in (book counts) s) (place_in (book counts) t)) (parting_kind counts s t)
-        parted = rw (settled, parts_now)
+        pub parted : (order ≡ which_of (place_in (book counts) s) (place_in (book counts) t)) × (j + 1 ≡ parting_kind counts s t)
+        parted = (settled, parts_now)
 
       -- or they are alike in one kind more
       module _ (e : order ≡ 3) where
@@ -120,5 +119,5 @@ module _ {counts s t : List ℕ} {before : Bool} {below j : ℕ} (l : Level coun
     unfolding smallest_from
     never_parts = rw (drop_of_length-le counts h) at l.parts
 
-    pub end : as_compared fine 3 0 ≡ as_compared fine (which_of (place_in (book counts) s) (place_in (book counts) t)) (parting_kind counts s t)
-    end = rw (which_equal _ _ (ap (place_in (book counts)) equal), ← never_parts)
+    pub end : (3 ≡ which_of (place_in (book counts) s) (place_in (book counts) t)) × (0 ≡ parting_kind counts s t)
+    end = (sym (which_equal _ _ (ap (place_in (book counts)) equal)), never_parts)

@@ -5,5 +5,6 @@ mod Ahead
 mod Parting
 mod Level
 mod Handed
+mod Checked
 pub mod Theorems
 pub mod Marked

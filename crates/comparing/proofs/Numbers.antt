@@ -4,7 +4,11 @@ use mathlib.Core.Path.{◌≡◌, sym, ◌∙◌}
 use native.Mathlib.Decide.{dec_lt}
 use native.Mathlib.Omega.{arith}
 use borrow.Author.Tests.{lt-ltb, le-ltb}
+use Rattle.std.specs.Prelude.{Some}
+use Rattle.comparing.specs.declared.letters.Ahead.{Ahead}
+use Rattle.comparing.specs.declared.letters.Ahead.TheVariants.{First, Second}
 use Rattle.comparing.specs.Order.{which_of}
+use Rattle.comparing.specs.Parted.{ahead_number}
 
 module _ (m n : ℕ) where
   pub which_first : m < n → which_of m n ≡ 1
@@ -44,3 +48,8 @@ which_as m n x y less more equal = elim (dec_lt m n) [
   | yes l ↦ which_first m n l ∙ sym (which_first x y (less l))
   | no l ↦ elim (dec_lt n m) [ yes k ↦ which_second m n k ∙ sym (which_second x y (more k)) | no k ↦ which_equal m n (omega arith) ∙ sym (which_equal x y (equal (omega arith))) ]
 ]
+
+-- the number of one that stands ahead
+pub ahead_range : (a : Ahead) → (0 < ahead_number (Some a)) × (ahead_number (Some a) < 3)
+ahead_range First = (omega arith, omega arith)
+ahead_range Second = (omega arith, omega arith)

@@ -1,4 +1,4 @@
--- `comparing::letters::order_of` meets its contract. The measure is the number of letters that are left.
+-- `comparing::letters::order_of` meets its contract.
 use native.Mathlib.Omega.{arith}
 use borrow.Author.Tests.{eq-eqb, ne_eqb}
 use Rattle.comparing.proofs.LetterByLetter.{start, behind, ahead, on_k, on_r, end}
@@ -6,12 +6,6 @@ use Rattle.comparing.proofs.letters.order_of.Goals as goal
 
 pub loop-a-init : goal.loop-a-init
 loop-a-init c = let p = c.requires in start _ _ _ _ p.0 p.1
-
-pub bounds-one-a : goal.bounds-one-a
-bounds-one-a c = omega (arith, c.loop-a.invariant.left)
-
-pub bounds-two-a : goal.bounds-two-a
-bounds-two-a c = let l = c.loop-a in omega (arith, l.invariant.left, l.invariant.long)
 
 pub returns-then-own-heading : goal.returns-then-own-heading
 returns-then-own-heading c = behind c.loop-a.invariant (omega arith) c.if-own-other.true c.if-own-heading.true
