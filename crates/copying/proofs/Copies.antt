@@ -1,11 +1,11 @@
 -- Proofs. A strip copied over the start of a word, a strip that stands there, and the zeros behind it.
-use Prim.Native.Nat.{ℕ, zero, suc, ◌-◌, ◌≤◌}
+use Prim.Native.Nat.{ℕ, ◌-◌, ◌≤◌}
 use mathlib.Core.Path.{◌≡◌, refl, ap, ◌∙◌}
 use mathlib.Core.List.{List, ◌++◌, append-nil}
-use native.Mathlib.Nat.{sub-zero, zero-sub, suc-sub-suc}
 use native.Mathlib.Omega.{arith}
 use lib.ListN.{length, take, drop, replicate, length-append, length-replicate, drop_of_length-le}
 use lib.Seq.{take_at}
+use Rattle.std.proofs.lemmas.List.{drop-replicate}
 
 -- ---- a copy
 
@@ -19,14 +19,9 @@ copy_whole s d w e h = e ∙ rw (drop_of_length-le d {i = length s} (omega arith
 
 -- ---- zeros behind it
 
-pub zeros_left : (n m : ℕ) → drop m (replicate {A = ℕ} n 0) ≡ replicate (n - m) 0
-zeros_left n zero = rw (sub-zero n)
-zeros_left zero (suc m) = rw (zero-sub (suc m))
-zeros_left (suc n) (suc m) = rw (suc-sub-suc n m) (zeros_left n m)
-
 -- over zeros
 pub copy_zeros : (n : ℕ) (s w : List ℕ) → w ≡ copied_over s (replicate n 0) → w ≡ s ++ replicate (n - length s) 0
-copy_zeros n s w e = e ∙ rw (zeros_left n (length s))
+copy_zeros n s w e = e ∙ rw (drop-replicate {X = ℕ} (length s) n 0)
 
 module _ (n : ℕ) (s w : List ℕ) (e : w ≡ s ++ replicate (n - length s) 0) where
   pub copy_length : length s ≤ n → length w ≡ n
