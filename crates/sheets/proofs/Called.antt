@@ -4,13 +4,16 @@ use mathlib.Core.Path.{◌≡◌, refl, sym, ap, ◌∙◌}
 use mathlib.Core.List.{List, [], ◌∷◌, ◌++◌}
 use borrow.Author.Tests.{lt-ltb, le-ltb, ltb-false}
 use lib.ListN.{length, drop}
+use Rattle.std.specs.Prelude.{Result}
+use Rattle.std.specs.Result.{IsErrAnd}
+use Rattle.std.proofs.lemmas.Result.{err_from_is_err_and}
 use Rattle.rules.specs.Stock.{IsStock, IsStrip}
 use Rattle.rules.specs.Refusals.{No, fine, first_of, unless, check_nos}
 use Rattle.rules.proofs.Refusals.{refused_first, passed_first, passed_both, unless_refused, unless_passed}
 use Rattle.rules.proofs.Checks.{when_passed, passed_head, accepted_both, accepted_both_back}
-use Rattle.stock.specs.declared.Refusal.{Refusal}
-use Rattle.stock.specs.Refused.{refusal}
-use Rattle.stock.proofs.Tested.{stopped}
+use Rattle.stock.specs.declared.refused.Refused.{Refused}
+use Rattle.stock.specs.Refused.{no_of, answered}
+use Rattle.stock.proofs.Told.{stopped}
 use Rattle.walking.specs.Answers.{left}
 use Rattle.sheets.specs.declared.Written.{Written}
 use Rattle.sheets.specs.Writing.{short_no, fewer_no, put_nos, as_written, put_answer, sheet_put}
@@ -25,12 +28,15 @@ module _ (long : ℕ) (bytes counts s : List ℕ) (c : ℕ) (sheet : List ℕ) w
   by_first r e = rw e (refl, refl)
 
   -- 1 to 6 refuse
-  pub refused : (r : Refusal) → r ≡ refusal (first_of (check_nos counts s)) → (r.no ≡ 0 → ⊥) → Leaves (record { refusal = r; length = 0 }) sheet
+  stopped_by : (e : Refused) → no_of e ≡ first_of (check_nos counts s) → Leaves (as_written (no_of e) 0) sheet
   unfolding put_nos
-  refused r is h =
+  stopped_by e is =
       let a = check_nos counts s in
-      let k = stopped a r is h in
+      let k = stopped a e is in
       rw (unless_refused {A = ℕ} 0 _ (first_of a) k, unless_refused sheet _ (first_of a) k, ← is) at (by_first (first_of a) (refused_first a (short_no long sheet ∷ fewer_no counts s c ∷ []) k))
+
+  pub refused : (r : Result ℕ Refused) (e : Refused) → IsErrAnd r (λ y. y ≡ e) → no_of e ≡ first_of (check_nos counts s) → Leaves (answered as_written 0 r) sheet
+  refused r e h is = let p = err_from_is_err_and r h in rw (p.1, p.2) (stopped_by e is)
 
   -- past them
   module _ (none : (first_of (check_nos counts s)).0 ≡ 0) where

@@ -1,5 +1,4 @@
 -- Proofs: nobody needs to read these to know what holds.
-mod Copying
 pub mod Rest
 pub mod Bodies
 pub mod Lengths

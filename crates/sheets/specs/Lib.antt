@@ -1,3 +1,4 @@
--- TO BE BELIEVED: what a press sheet is, and what writing one answers.
+-- What a press sheet is, and what writing one answers (to be believed), and the number of a record's kind.
+pub mod Kinds
 pub mod Sheets
 pub mod Writing

@@ -1,29 +1,19 @@
 // The records of a sheet. Each is written at the front of the rest of a sheet, and the bytes behind it stay.
 ghost use Rattle.std.specs.Prelude.{suc, ◌≤◌, ◌<◌, ◌≡◌, ◌∷◌, ◌++◌, length, drop};
 ghost use Rattle.rules.specs.Stock.{IsStock};
+ghost use Rattle.sheets.specs.Kinds.{number_of_kind};
 ghost use Rattle.sheets.specs.Sheets.{stock_record, strip_record, end_record};
 
-use copying::copied;
-
-// Bytes, as they stand.
-fn put_bytes(rest: &mut [u8], bytes: &[u8])
-    requires { length bytes.now ≤ length rest.old }
-    ensures { rest.new ≡ bytes.now ++ drop (length bytes.now) rest.old }
-{
-    let mut i = 0;
-    while i < bytes.len() {
-        rest[i] = bytes[i];
-        i += 1;
-    }
-}
+use crate::Record;
+use copying::{copied, copy};
 
 // A record: one byte of kind, then the body.
-pub fn put_record(rest: &mut [u8], kind: u8, body: &[u8])
+pub fn put_record(rest: &mut [u8], kind: Record, body: &[u8])
     requires { length body.now < length rest.old }
-    ensures { rest.new ≡ (kind ∷ body.now) ++ drop (suc (length body.now)) rest.old }
+    ensures { rest.new ≡ (number_of_kind kind ∷ body.now) ++ drop (suc (length body.now)) rest.old }
 {
-    rest[0] = kind;
-    put_bytes(&mut rest[1..], body);
+    rest[0] = kind as u8;
+    copy(body, &mut rest[1..]);
 }
 
 // The stock: 16 bytes of counts, zero after its last kind.
@@ -32,12 +22,10 @@ pub fn put_stock(rest: &mut [u8], stock: &[u16])
     ensures { rest.new ≡ stock_record stock.now ++ drop 17 rest.old }
 {
     let mut body: [u8; 16] = [0; 16];
-    let mut i = 0;
-    while i < stock.len() {
-        body[i] = stock[i] as u8;
-        i += 1;
+    for (i, count) in stock.iter().enumerate() {
+        body[i] = *count as u8;
     }
-    put_record(rest, 1, &body);
+    put_record(rest, Record::Stock, &body);
 }
 
 // The strip: 64 bytes, zero after its last place.
@@ -45,8 +33,16 @@ pub fn put_strip(rest: &mut [u8], strip: &[u8])
     requires { (length strip.now ≤ 64) × (65 ≤ length rest.old) }
     ensures { rest.new ≡ strip_record strip.now ++ drop 65 rest.old }
 {
-    let body = copied(strip);
-    put_record(rest, 2, &body);
+    put_record(rest, Record::Strip, &copied(strip));
+}
+
+// The two records before the moves.
+pub fn put_opening(rest: &mut [u8], stock: &[u16], strip: &[u8])
+    requires { IsStock stock.now × (length strip.now ≤ 64) × (82 ≤ length rest.old) }
+    ensures { rest.new ≡ (stock_record stock.now ++ strip_record strip.now) ++ drop 82 rest.old }
+{
+    put_stock(rest, stock);
+    put_strip(&mut rest[17..], strip);
 }
 
 // A move: two places, smaller first.
@@ -54,9 +50,7 @@ pub fn put_move(rest: &mut [u8], low: u8, high: u8)
     requires { 3 ≤ length rest.old }
     ensures { rest.new ≡ 3 ∷ low ∷ high ∷ drop 3 rest.old }
 {
-    rest[0] = 3;
-    rest[1] = low;
-    rest[2] = high;
+    put_record(rest, Record::Move, &[low, high]);
 }
 
 // The end: no body.
@@ -64,5 +58,5 @@ pub fn put_end(rest: &mut [u8])
     requires { 1 ≤ length rest.old }
     ensures { rest.new ≡ end_record ++ drop 1 rest.old }
 {
-    rest[0] = 4;
+    put_record(rest, Record::End, &[]);
 }

@@ -1,11 +1,7 @@
 -- `sheets::records::put_stock` meets its contract.
-use Prim.Native.Nat.{◌-◌}
-use lib.ListN.{length}
-use Rattle.sheets.proofs.Copying.{Copying}
+use lib.Seq.{paste}
+use mathlib.Core.Path.{◌≡◌}
 use Rattle.sheets.proofs.records.put_stock.Given as goal
 
 abbrev pub invariant-loop-i : goal.invariant-loop-i
-invariant-loop-i l = Copying l.stock l.initial.body l.body l.i
-
-abbrev pub decreases-loop-i : goal.decreases-loop-i
-decreases-loop-i l = length l.stock - l.i
+invariant-loop-i l = l.body ≡ paste l.initial.body 0 l.stock l.i
