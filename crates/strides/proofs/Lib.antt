@@ -1,4 +1,3 @@
 -- Proofs: nobody needs to read these to know what holds.
 pub mod Values
 pub mod Rows
-mod Digits

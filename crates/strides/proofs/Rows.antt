@@ -1,5 +1,5 @@
 -- Proofs. A stride of n moves: which row refuses it, and where none does, the strip n numbers further on.
-use Prim.Native.Nat.{ℕ, suc, ◌+◌, ◌-◌, ◌^◌, ◌≤◌, ◌<◌}
+use Prim.Native.Nat.{ℕ, ◌+◌, ◌-◌, ◌^◌, ◌≤◌, ◌<◌}
 use mathlib.Core.Path.{◌≡◌, refl, sym, ap, ◌∙◌}
 use mathlib.Core.Bool.{false}
 use mathlib.Core.List.{List, []}
@@ -16,9 +16,27 @@ use Rattle.rules.proofs.Checks.{passed_head, when_passed}
 use Rattle.rules.proofs.Places.{place_below}
 use Rattle.walking.specs.Answers.{along, left_along, left}
 use Rattle.walking.proofs.Along.{along_strip}
+use Rattle.std.specs.Prelude.{Result, Ok, Err, IsOk, IsErr}
+use Rattle.std.specs.Result.{IsErrAnd}
+use Rattle.std.proofs.lemmas.Result.{err_from_is_err_and}
+use Rattle.stock.specs.declared.refused.Reason.{Reason}
+use Rattle.stock.specs.declared.refused.Reason.TheVariants.{Many, Astray, Stride}
+use Rattle.stock.specs.Refused.{number_of}
+use Rattle.stock.proofs.Told.{number_some}
 use Rattle.strides.specs.Strides.{stride_nos}
-use Rattle.strides.specs.declared.ahead.Ahead.{Ahead}
-use Rattle.strides.specs.Strode.{Sees, Strode}
+use Rattle.strides.specs.Strode.{row_of, Sees, Strode}
+
+-- which row it is
+number_many : (r : Reason) → number_of r ≡ 7 → r ≡ Many
+number_many r h = grind (arith, h)
+
+row_many : (a : Result ℕ Reason) → row_of a ≡ (7, 0) → a ≡ Err Many
+row_many (Ok m) e = absurd (omega (arith, ap (λ (r : No). r.0) e))
+row_many (Err r) e = rw (number_many r (ap (λ (r : No). r.0) e))
+
+row_some : (a : Result ℕ Reason) → IsErr a → row_of a ≡ fine → ⊥
+row_some (Ok m) h e = absurd (cc)
+row_some (Err r) h e = number_some r (ap (λ (r : No). r.0) e)
 
 module _ (counts s : List ℕ) (n : ℕ) where
   rows_short : n < 2 → first_of (stride_nos counts s n) ≡ (17, 0)
@@ -53,35 +71,29 @@ module _ (counts s : List ℕ) (n : ℕ) where
       let three = passed_head _ _ two.1 in
       record { two = ltb-false _ _ (when_passed 16 0 _ one.0); few = leb-false _ _ (when_passed 6 0 _ two.0); within = ltb-false _ _ (when_passed 11 0 _ three.0) }
 
-  no_of : (m : ℕ) → first_of (stride_nos counts s n) ≡ (m, 0) → m ≡ (first_of (stride_nos counts s n)).0
-  no_of m e = sym (ap (λ (r : No). r.0) e)
-
   -- ---- case by case as it is found
 
-  barred : (m : ℕ) (a : Ahead) → a ≡ record { no = suc m; number = 0 } → first_of (stride_nos counts s n) ≡ (suc m, 0) → Sees counts s n a
-  barred m a is e = rw is record { refusal = no_of (suc m) e; place = λ z. absurd (omega arith) }
-
-  pub sees_short : (a : Ahead) → a ≡ record { no = 17; number = 0 } → n < 2 → Sees counts s n a
-  sees_short a is h = barred 16 a is (rows_short h)
+  pub sees_short : n < 2 → Sees counts s n (Err Stride)
+  sees_short h = record { refusal = sym (rows_short h); place = tt }
 
   module _ (two : 2 ≤ n) where
-    pub sees_many : (a : Ahead) → a ≡ record { no = 7; number = 0 } → 2 ^ 64 ≤ total counts → Sees counts s n a
-    sees_many a is h = barred 6 a is (rows_many two h)
+    pub sees_many : 2 ^ 64 ≤ total counts → Sees counts s n (Err Many)
+    sees_many h = record { refusal = sym (rows_many two h); place = tt }
 
     module _ (h : IsStrip counts s) (few : total counts < 2 ^ 64) (here : ℕ) (is : here ≡ place_in (book counts) s) where
       left_is : left counts s ≡ total counts - 1 - here
       unfolding left_along
       left_is = rw (sym is) refl
 
-      pub sees_past : (a : Ahead) → a ≡ record { no = 12; number = 0 } → total counts - here ≤ n → Sees counts s n a
-      sees_past a e l = barred 11 a e (rows_past two few (omega (arith, left_is, is, place_below counts s h)))
+      pub sees_past : total counts - here ≤ n → Sees counts s n (Err Astray)
+      sees_past l = record { refusal = sym (rows_past two few (omega (arith, left_is, is, place_below counts s h))); place = tt }
 
-      pub sees_on : n < total counts - here → Sees counts s n (record { no = 0; number = here + n })
-      sees_on l = record { refusal = no_of 0 (rows_fine two few (omega (arith, left_is))); place = λ z. rw is }
+      pub sees_on : n < total counts - here → Sees counts s n (Ok (here + n))
+      sees_on l = record { refusal = sym (rows_fine two few (omega (arith, left_is))); place = rw is }
 
     -- ---- and back: what the number of the refusal says
 
-    pub seven_many : (first_of (stride_nos counts s n)).0 ≡ 7 → 2 ^ 64 ≤ total counts
+    seven_many : (first_of (stride_nos counts s n)).0 ≡ 7 → 2 ^ 64 ≤ total counts
     seven_many e = elim (dec_lt (total counts) (2 ^ 64)) [
       | yes few ↦ elim (dec_lt (left counts s) n) [
         | yes l ↦ absurd (omega (arith, e, ap (λ (r : No). r.0) (rows_past two few l)))
@@ -90,33 +102,46 @@ module _ (counts s : List ℕ) (n : ℕ) where
       | no many ↦ omega arith
     ]
 
-    pub else_few : ((first_of (stride_nos counts s n)).0 ≡ 7 → ⊥) → total counts < 2 ^ 64
-    else_few h = elim (dec_lt (total counts) (2 ^ 64)) [ yes few ↦ few | no many ↦ absurd (h (ap (λ (r : No). r.0) (rows_many two (omega arith)))) ]
+  -- ---- what was seen ahead, whether it is a number or a refusal
 
-    pub refused_past : total counts < 2 ^ 64 → ((first_of (stride_nos counts s n)).0 ≡ 0 → ⊥) → left counts s < n
-    refused_past few h = elim (dec_lt (left counts s) n) [ yes l ↦ l | no l ↦ absurd (h (ap (λ (r : No). r.0) (rows_fine two few (omega arith)))) ]
+  module _ (two : 2 ≤ n) (a : Result ℕ Reason) (v : Sees counts s n a) where
+    pub seen_many : a ≡ Err Many → 2 ^ 64 ≤ total counts
+    seen_many e = let row : first_of (stride_nos counts s n) ≡ (7, 0) = sym v.refusal ∙ rw e in seven_many two (ap (λ (r : No). r.0) row)
+
+    pub seen_numbered : (a ≡ Err Many → ⊥) → total counts < 2 ^ 64
+    seen_numbered h = elim (dec_lt (total counts) (2 ^ 64)) [ yes few ↦ few | no many ↦ absurd (h (row_many a (v.refusal ∙ rows_many two (omega arith)))) ]
+
+    pub seen_past : total counts < 2 ^ 64 → IsErr a → left counts s < n
+    seen_past few h = elim (dec_lt (left counts s) n) [ yes l ↦ l | no l ↦ absurd (row_some a h (v.refusal ∙ rows_fine two few (omega arith))) ]
+
+  pub seen_within : (a : Result ℕ Reason) → Sees counts s n a → IsOk a → n ≤ left counts s
+  seen_within (Ok m) v h = (rows_passed (ap (λ (r : No). r.0) (sym v.refusal))).within
+  seen_within (Err r) v h = absurd (cc)
 
   -- ---- making it, as it is seen ahead
 
-  module _ (a : Ahead) (v : Sees counts s n a) where
-    pub strode_not : (t : List ℕ) → (a.no ≡ 0 → ⊥) → Strode counts s n a.no t
-    strode_not t h = record { number = v.refusal; strip = λ z. absurd (h z) }
+  pub strode_not : (r : Result (Unit {0}) Reason) (e : Reason) → IsErrAnd r (λ y. y ≡ e) → Sees counts s n (Err e) → (t : List ℕ) → Strode counts s n r t
+  strode_not r e h v t = let p = err_from_is_err_and r h in rw (p.1, p.2) record { refusal = v.refusal; strip = tt }
 
-    module _ (z : a.no ≡ 0) where
-      pub seen_few : total counts < 2 ^ 64
-      seen_few = (rows_passed (sym v.refusal ∙ z)).few
+  module _ (number : ℕ) (v : Sees counts s n (Ok number)) where
+    seen : CanStride
+    seen = rows_passed (ap (λ (r : No). r.0) (sym v.refusal))
 
-      pub seen_below : IsStrip counts s → a.number < total counts
-      unfolding left_along
-      seen_below h = omega (arith, v.place z, (rows_passed (sym v.refusal ∙ z)).within, place_below counts s h)
+    pub seen_few : total counts < 2 ^ 64
+    seen_few = seen.few
 
-      pub strode : (t : List ℕ) → t ≡ get_or (book counts) a.number [] → Strode counts s n 0 t
-      unfolding along
-      strode t e = record { number = sym z ∙ v.refusal; strip = λ y. e ∙ rw (v.place z) }
+    pub seen_below : IsStrip counts s → number < total counts
+    unfolding left_along
+    seen_below h = omega (arith, v.place, seen.within, place_below counts s h)
+
+    pub strode : (t : List ℕ) → t ≡ get_or (book counts) number [] → Strode counts s n (Ok tt) t
+    unfolding along
+    strode t e = record { refusal = v.refusal; strip = e ∙ rw v.place }
 
 -- the strip that is left is one of the stock
-pub own_after : (counts s : List ℕ) (n m : ℕ) (t : List ℕ) → IsStrip counts s → Strode counts s n m t → m ≡ 0 → IsStrip counts t
-own_after counts s n m t h v e = rw (v.strip e) (along_strip false counts s h n (rows_passed counts s n (sym v.number ∙ e)).within)
+pub own_after : (counts s : List ℕ) (n : ℕ) (t : List ℕ) → IsStrip counts s → Strode counts s n (Ok tt) t → IsStrip counts t
+own_after counts s n t h v =
+    rw v.strip (along_strip false counts s h n (rows_passed counts s n (ap (λ (r : No). r.0) (sym v.refusal))).within)
 
 -- ---- the number of its refusal: none, 7, 12 or 17
 
