@@ -5,12 +5,5 @@ ghost use Rattle.std.specs.Prelude.{◌+◌, ◌*◌, ◌≤◌, ◌<◌, not, T
 pub fn has_room(bytes: usize, moves: u64) -> bool
     ensures { (T result → 83 + 3 * moves ≤ bytes) × (T (not result) → bytes < 83 + 3 * moves) }
 {
-    if bytes < 83 {
-        return false;
-    }
-    let most = (bytes - 83) / 3;
-    if (most as u64) < moves {
-        return false;
-    }
-    true
+    83 <= bytes && moves <= ((bytes - 83) / 3) as u64
 }

@@ -15,19 +15,13 @@ fn walk_up_to(stock: &[u16], strip: &mut [u8], walker: Walker, most: usize) -> u
     ensures { result ≡ min most (left stock.now strip.old) }
 {
     let mut walker = walker;
-    let mut made: usize = 0;
-    while made < most {
-        let m = step(stock, strip, walker, false);
-        let refusal = m.refusal;
-        let no = refusal.no;
-        if no != 0 {
-            return made;
-        }
-        let next = m.walker;
-        walker = next;
-        made += 1;
+    for moves in 0..most {
+        let Some(made) = step(stock, strip, walker, false) else {
+            return moves;
+        };
+        walker = made.walker;
     }
-    made
+    most
 }
 
 // So many moves on from a strip, or those that are left if fewer. A copy of the strip walks.
@@ -35,9 +29,8 @@ pub fn moves_up_to(stock: &[u16], strip: &[u8], walker: Walker, most: usize) -> 
     requires { Checked stock.now strip.now walker }
     ensures { result ≡ min most (left stock.now strip.now) }
 {
-    let n = strip.len();
     let mut word = copied(strip);
-    walk_up_to(stock, &mut word[..n], walker, most)
+    walk_up_to(stock, &mut word[..strip.len()], walker, most)
 }
 
 // The records of so many moves on, each in the rest behind the last.
@@ -46,14 +39,11 @@ pub fn put_moves(rest: &mut [u8], stock: &[u16], strip: &mut [u8], walker: Walke
     ensures { rest.new ≡ move_records stock.now strip.old moves ++ drop (3 * moves) rest.old }
 {
     let mut walker = walker;
-    let mut at: usize = 0;
-    let mut listed: usize = 0;
-    while listed < moves {
-        let m = step(stock, strip, walker, false);
-        put_move(&mut rest[at..], m.low, m.high);
-        let next = m.walker;
-        walker = next;
-        at += 3;
-        listed += 1;
+    for listed in 0..moves {
+        let Some(made) = step(stock, strip, walker, false) else {
+            return;
+        };
+        put_move(&mut rest[3 * listed..], made.low, made.high);
+        walker = made.walker;
     }
 }

@@ -6,7 +6,7 @@ ghost use Rattle.sheets.specs.Sheets.{sheet_of};
 
 use crate::sheet_moves::put_moves;
 use copying::copied;
-use sheets::records::{put_end, put_stock, put_strip};
+use sheets::records::{put_end, put_opening};
 use walker::Walker;
 
 // The records in order, each in the rest of the sheet behind the last.
@@ -14,11 +14,14 @@ pub fn put_sheet(sheet: &mut [u8], stock: &[u16], strip: &[u8], walker: Walker, 
     requires { Checked stock.now strip.now walker × (moves ≤ left stock.now strip.now) × (83 + 3 * moves ≤ length sheet.old) }
     ensures { sheet.new ≡ sheet_of stock.now strip.now moves ++ drop (83 + 3 * moves) sheet.old }
 {
-    put_stock(sheet, stock);
-    put_strip(&mut sheet[17..], strip);
-    let n = strip.len();
+    put_opening(sheet, stock, strip);
     let mut word = copied(strip);
-    put_moves(&mut sheet[82..], stock, &mut word[..n], walker, moves);
-    let at = 82 + 3 * moves;
-    put_end(&mut sheet[at..]);
+    put_moves(
+        &mut sheet[82..],
+        stock,
+        &mut word[..strip.len()],
+        walker,
+        moves,
+    );
+    put_end(&mut sheet[82 + 3 * moves..]);
 }

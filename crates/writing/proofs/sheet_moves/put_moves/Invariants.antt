@@ -1,10 +1,6 @@
 -- `writing::sheet_moves::put_moves` meets its contract. The invariant: the walk has made so many moves, and their records stand at the front of the rest.
-use Prim.Native.Nat.{◌-◌, ◌≤◌}
 use Rattle.writing.proofs.Listing.{Listing}
 use Rattle.writing.proofs.sheet_moves.put_moves.Given as goal
 
 abbrev pub invariant-loop-listed : goal.invariant-loop-listed
-invariant-loop-listed l = (l.listed ≤ l.moves) × Listing l.stock l.initial.strip l.initial.rest l.strip l.walker l.rest l.at l.listed
-
-abbrev pub decreases-loop-listed : goal.decreases-loop-listed
-decreases-loop-listed l = l.moves - l.listed
+invariant-loop-listed l = Listing l.stock l.initial.strip l.initial.rest l.strip l.walker l.rest l.listed
