@@ -26,48 +26,45 @@ fn answered(moves: usize, ended: bool, walker: Walker) -> Ran
     ensures { result ≡ as_ran fine moves ended walker }
 {
     Ran {
-        refusal: Refusal { no: 0, place: 0 },
+        refusal: Refusal::NONE,
         moves: moves as u64,
         ended,
         walker,
     }
 }
 
-// Moves a checked strip on, or back, and lists the places, two a move. The next move is looked for before the room is, so that it is known whether there is one.
-fn run_checked(stock: &[u16], strip: &mut [u8], walker: Walker, back: bool, list: &mut [u8]) -> Ran
+// Moves a checked strip on, or back, and lists the places, two a move. Where the room is used, one move more is looked for, so that it is known whether there is one.
+fn run_checked(
+    stock: &[u16],
+    strip: &mut [u8],
+    mut walker: Walker,
+    back: bool,
+    list: &mut [u8],
+) -> Ran
     requires { Checked stock.now strip.old walker }
     ensures { Made back stock.now strip.old list.old result strip.new list.new }
 {
     let room = list.len() / 2;
-    let mut walker = walker;
-    let mut moves: usize = 0;
-    loop {
-        let m = find(stock, strip, walker, back);
-        let kind = m.kind;
-        if kind == 0 {
+    for moves in 0..room {
+        let Some(m) = find(stock, strip, walker, back) else {
             return answered(moves, true, walker);
-        }
-        if moves == room {
-            return answered(moves, false, walker);
-        }
+        };
         let made = make(stock, strip, walker, m);
         list[2 * moves] = made.low;
         list[2 * moves + 1] = made.high;
-        let next = made.walker;
-        walker = next;
-        moves += 1;
+        walker = made.walker;
     }
+    let next = find(stock, strip, walker, back);
+    answered(room, next.is_none(), walker)
 }
 
 // The input is checked once; after that the strip only moves.
 pub fn run(stock: &[u16], strip: &mut [u8], walker: Walker, back: bool, list: &mut [u8]) -> Ran
     ensures { (result ≡ run_answer back stock.now strip.old walker list.old) × (strip.new ≡ run_strip back stock.now strip.old walker list.old) × (list.new ≡ run_list back stock.now strip.old walker list.old) }
 {
-    let refusal = check_walker(stock, strip, walker);
-    let no = refusal.no;
-    if no != 0 {
+    if let Err(refused) = check_walker(stock, strip, walker) {
         return Ran {
-            refusal,
+            refusal: refused.into(),
             moves: 0,
             ended: false,
             walker,
