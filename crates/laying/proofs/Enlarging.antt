@@ -2,7 +2,7 @@
 use Prim.Native.Nat.{ℕ, suc, ◌+◌, ◌-◌, ◌*◌, ◌/◌, ◌≤◌, ◌<◌}
 use mathlib.Core.Path.{◌≡◌, sym, ap, ◌∙◌}
 use mathlib.Core.Bool.{Bool, true, false}
-use native.Mathlib.Nat.{mul-one, div-one, mul-pos, mul-div_cancel, mul-le-mul_right, mul-lt-mul_of_pos_right}
+use native.Mathlib.Nat.{mul-one, mul-pos, mul-div_cancel, mul-le-mul_right, mul-lt-mul_of_pos_right}
 use native.Mathlib.Decide.{dec_lt}
 use native.Mathlib.Omega.{arith}
 use Rattle.rules.specs.Stock.{binom}
@@ -19,18 +19,8 @@ module _ {a b i all index times : ℕ} (e : Enlarged a b i all index times) wher
   pub patterns_are : all / times ≡ binom a b
   patterns_are = rw e.all_is (mul-div_cancel (binom a b) {n = times} e.some)
 
-  pub below : index < all
-  below = omega (arith, e.all_is, e.index_is, mul-lt-mul_of_pos_right {m = i} {n = binom a b} {k = times} e.within e.some)
-
-  pub times_fit : times ≤ all
-  times_fit = omega (arith, e.all_is, mul-le-mul_right {m = 1} {n = binom a b} times (omega (arith, e.within)))
-
   pub divided : Enlarged a b i (all / times) (index / times) 1
   divided = record { some = omega arith; within = e.within; all_is = patterns_are ∙ sym (mul-one (binom a b)); index_is = quotient ∙ sym (mul-one i) }
-
--- the index that a divisor of 1 gives is the index itself
-pub by_one : {a b i all index : ℕ} → Enlarged a b i all index 1 → Enlarged a b (index / 1) all index 1
-by_one {a} {b} {i} {all} {index} e = rw (quotient e) e
 
 -- as they are
 pub plain : (a b i all : ℕ) → all ≡ binom a b → i < all → Enlarged a b i all i 1
@@ -44,10 +34,6 @@ module _ {a b i all index times : ℕ} (e : Enlarged a b i all index times) (l :
     number = record { some = mul-pos e.some h; within = e.within; all_is = omega (arith, ap (λ (n : ℕ). n * a) e.all_is); index_is = omega (arith, ap (λ (n : ℕ). n * a) e.index_is) };
     in_k_is = omega (arith, ap (λ (n : ℕ). n * (a - b)) e.all_is, ap (λ (n : ℕ). n * times) (in_k a b l h));
   }
-
--- they are the same for an index that was divided by 1
-pub parts_by_one : {a b i all in_k_word index times : ℕ} → InParts a b (i / 1) all in_k_word index times → InParts a b i all in_k_word index times
-parts_by_one {a} {b} {i} p = rw (div-one i) at p
 
 -- ---- one letter less
 

@@ -27,10 +27,6 @@ module _ {kind : ℕ} {word₀ : List ℕ} {others index : ℕ} where
   start is h l = in_place (enlarging.plain (length word₀) others index _ is l) (from_right.start kind word₀ others index h (rw is at l))
 
   module _ {word : List ℕ} {a b all i times : ℕ} {turned : Bool} (s : InPlace kind word₀ others index word a b all i times turned) (h : b < a) where
-    -- the place that is written is in the word, and so is the block that is read for it
-    pub place_here : a - 1 < length word
-    place_here = omega (arith, s.laid.left, s.laid.room)
-
     module _ {more in_k at larger : ℕ} (p : InParts a b (i / times) more in_k at larger) where
       on_k : at < in_k → InPlace kind word₀ others index (set word (a - 1) kind) (a - 1) b in_k (face turned (in_k - larger + 1) at) larger false
       on_k l = in_place (enlarging.on_k p l turned refl) (from_right.on_k s.laid h _ refl (enlarging.before p l) refl)
@@ -40,13 +36,6 @@ module _ {kind : ℕ} {word₀ : List ℕ} {others index : ℕ} where
 
       on_r : in_k ≤ at → InPlace kind word₀ others index (set word (a - 1) (get_or word (b - 1) 0)) (a - 1) (b - 1) (more - in_k) (at - in_k) larger (not turned)
       on_r l = in_place (enlarging.on_r p l (omega arith) (block_left l)) (from_right.on_r s.laid h _ refl (enlarging.past p l) refl)
-
-      pub block_here : {b' : ℕ} → b' ≡ pick (ltb at in_k) b (b - 1) → b' < length word
-      block_here e = omega (arith, place_here, go (ltb at in_k) e)
-        where
-          go : (own : Bool) {b' : ℕ} → b' ≡ pick own b (b - 1) → b' ≤ b
-          go true e = omega arith
-          go false e = omega arith
 
       -- the next letter, K or R
       pub on : {b' block all' i' : ℕ} {turned' : Bool} → let own = ltb at in_k in b' ≡ pick own b (b - 1) → block ≡ pick own kind (get_or word b' 0) → all' ≡ pick own in_k (more - in_k)

@@ -8,33 +8,34 @@ ghost use Rattle.std.specs.Prelude.{◌≤◌, ◌<◌, ◌≡◌, [], length, t
 ghost use Rattle.rules.specs.Stock.{binom};
 ghost use Rattle.rules.specs.Book.{E, lay};
 
-use letters::{blocks_left, index_left, laid, patterns_left, turned_left};
-use parting::parted;
+use letters::{blocks_left, laid};
+use parting::Patterns;
 
 // The first `others` blocks of the lent word are a lower strip. Lays the kind and that strip by the pattern of the index in E(a, others), a the
-// word's length. The letters are found from the last to the first; a places and b blocks of the strip are left, with all their patterns, and i among
-// them, each `times` as large as it is. A block is never read right of the place that is written, so one word serves for both. Where only R is left, the
-// blocks stand in their places already.
+// word's length. The letters are found from the last to the first; a places and b blocks of the strip are left, with all their patterns and the index
+// among them. A block is never read right of the place that is written, so one word serves for both. Where only R is left, the blocks stand in their
+// places already.
 pub fn lay_at(patterns: u64, word: &mut [u8], others: usize, kind: u8, index: u64)
     requires { (patterns ≡ binom (length word.old) others) × (length word.old ≤ 64) × (others ≤ length word.old) × (index < patterns) }
     ensures { word.new ≡ lay kind (take others word.old) (get_or (E (length word.old) others) index []) }
 {
-    let mut a = word.len();
     let mut b = others;
-    let mut all = patterns;
-    let mut i = index;
-    let mut times: u64 = 1;
+    let mut left = Patterns {
+        all: patterns,
+        index,
+        times: 1,
+    };
     let mut turned = false;
-    while b < a {
-        let shares = parted(all, i, times, a, b);
-        let own = shares.index < shares.in_k;
-        a -= 1;
-        b = blocks_left(own, b);
+    for place in (0..word.len()).rev() {
+        if place < b {
+            break;
+        }
+        let shares = left.parted(place + 1, b);
+        let is_k = shares.is_k();
+        b = blocks_left(is_k, b);
         let block = word[b];
-        word[a] = laid(own, kind, block);
-        all = patterns_left(own, shares);
-        i = index_left(own, shares, turned);
-        turned = turned_left(shares, turned);
-        times = shares.times;
+        word[place] = laid(is_k, kind, block);
+        left = shares.left(turned);
+        turned = shares.turned_left(turned);
     }
 }

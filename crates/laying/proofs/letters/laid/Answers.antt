@@ -1,9 +1,0 @@
--- `laying::letters::laid` meets its contract.
-use Rattle.laying.proofs.Choices.{first, second}
-use Rattle.laying.proofs.letters.laid.Goals as goal
-
-pub returns-then-own : goal.returns-then-own
-returns-then-own c = first _ _ c.if-own.true
-
-pub returns : goal.returns
-returns c = second _ _ c.if-own.false
