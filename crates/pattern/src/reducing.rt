@@ -9,9 +9,9 @@ pub fn reduce(strip: &[u8], kind: u8, word: &mut [u8]) -> usize
     ensures { (result ≡ length (reduced kind strip.now)) × (take result word.new ≡ reduced kind strip.now) }
 {
     let mut n: usize = 0;
-    for block in strip {
-        word[n] = *block;
-        if *block <= kind {
+    for &block in strip {
+        word[n] = block;
+        if block <= kind {
             n += 1;
         }
     }
