@@ -16,7 +16,7 @@ use Rattle.rules.specs.Book.{place_in}
 use Rattle.rules.specs.Refusals.{No, when, first_of, check_nos}
 use Rattle.rules.specs.Outcome.{OneAnswer, OneOutcome}
 use Rattle.rules.proofs.Refusals.{passed_first, refused_first, unless_passed, unless_refused, passed_both}
-use Rattle.rules.proofs.Checks.{accepted, accepted_both, accepted_both_back, passed_head, when_passed, check_to_six}
+use Rattle.rules.proofs.Checks.{accepted_both, accepted_both_back, passed_head, when_passed, check_to_six}
 use Rattle.stock.specs.declared.Refusal.{Refusal}
 use Rattle.numbering.proofs.Right.{NumberRight, StripRight, number_right_of, strip_right_of, undone_number, undone_strip}
 use Rattle.dictionary.specs.Dictionary.{dictionary}
