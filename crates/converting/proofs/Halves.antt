@@ -1,68 +1,79 @@
 -- Proofs. Conversion from what its two halves answer: the strip of a number in one list, and the number of that strip in another.
-use Prim.Native.Nat.{ℕ, ◌^◌, ◌<◌}
+use Prim.Native.Nat.{ℕ, min, ◌^◌, ◌<◌}
 use mathlib.Core.Path.{◌≡◌, sym, ap, ◌∙◌}
-use mathlib.Core.Bool.{Bool, true, false}
 use mathlib.Core.List.{List, [], ◌∷◌}
-use lib.ListN.{length, get_or}
+use native.Mathlib.Decide.{ℕ_discrete}
+use native.Mathlib.Omega.{arith}
+use lib.ListN.{length, get_or, take, replicate}
+use lib.Seq.{length-take-le}
 use Rattle.rules.specs.Stock.{sum, total, IsStock, IsStrip}
 use Rattle.rules.specs.Book.{place_in}
-use Rattle.rules.specs.Refusals.{No, fine, first_of, unless, stock_nos, buffer_nos, many_no, above_no}
-use Rattle.rules.proofs.Refusals.{passed_first, unless_passed, answer_refused, answer_stopped, answer_passed}
-use Rattle.rules.proofs.Checks.{accepted_back, accepted_buffer_back, accepted_number}
+use Rattle.rules.specs.Refusals.{No, fine, first_of, unless, stock_nos, length_no, buffer_nos, many_no, above_no}
+use Rattle.rules.proofs.Refusals.{passed_first, refused_first, passed_both, passed_fine, unless_passed, answer_stopped, answer_passed}
+use Rattle.rules.proofs.Checks.{accepted, accepted_buffer, accepted_buffer_back, accepted_number}
 use Rattle.rules.proofs.Places.{book_only}
-use Rattle.stock.specs.declared.Refusal.{Refusal}
-use Rattle.stock.specs.Refused.{refusal}
-use Rattle.stock.proofs.Tested.{passed, stopped}
 use Rattle.numbering.specs.Answers.{by_number_nos}
 use Rattle.dictionary.proofs.Theorems.{dictionary_only}
 use Rattle.drawers.specs.Answers.{as_filed}
+use Rattle.converting.specs.declared.Listing.{Listing}
+use Rattle.converting.specs.declared.Listing.TheVariants.{Book, Dictionary}
 use Rattle.converting.specs.Answers.{convert_nos, convert_answer}
 use Rattle.converting.specs.Lists.{list_of}
 
 -- either list holds strips of the stock only
-only : (filed : Bool) (counts : List ℕ) (i : ℕ) → i < total counts → IsStrip counts (get_or (list_of filed counts) i [])
-only false counts = book_only counts
-only true counts = dictionary_only counts
+only : (l : Listing) (counts : List ℕ) (i : ℕ) → i < total counts → IsStrip counts (get_or (list_of l counts) i [])
+only Book counts = book_only counts
+only Dictionary counts = dictionary_only counts
 
--- a stock that is refused
-pub not_stock : (from to : List (List ℕ)) (counts : List ℕ) (at : ℕ) (checked : Refusal) → checked ≡ refusal (first_of (stock_nos counts)) → (checked.no ≡ 0 → ⊥)
-    → record { refusal = checked; number = 0 } ≡ convert_answer from to counts at
-unfolding convert_answer convert_nos
-not_stock from to counts at checked is h =
-    ap (λ (r : Refusal). record { refusal = r; number = 0 }) is ∙ answer_refused as_filed 0 (place_in to (get_or from at [])) (stock_nos counts) (many_no counts ∷ above_no counts at ∷ []) (stopped (stock_nos counts) checked is h)
+-- a word of as many places as the stock has blocks
+pub as_long : {counts : List ℕ} {n m : ℕ} → n ≡ min 65 (sum counts) → m ≡ min n 64 → IsStock counts → length (take m (replicate {A = ℕ} 64 0)) ≡ sum counts
+as_long {m = m} is k stock = length-take-le m (replicate 64 0) (omega (arith, k)) ∙ omega (arith, k, is, stock.short)
 
-module _ (filed : Bool) (to : List (List ℕ)) (counts : List ℕ) (at : ℕ) (stock : IsStock counts) (buffer : List ℕ) (room : length buffer ≡ sum counts) (held : Refusal)
-    (is : held ≡ refusal (first_of (by_number_nos counts at buffer))) where
-  -- a stock that is accepted and a buffer of its length leave 7 and 8
-  rest : first_of (by_number_nos counts at buffer) ≡ first_of (many_no counts ∷ above_no counts at ∷ [])
-  unfolding by_number_nos
-  rest = passed_first (buffer_nos counts buffer) _ (accepted_buffer_back counts buffer stock room)
+module _ (counts : List ℕ) (at : ℕ) (buffer : List ℕ) where
+  abbrev nos : List No
+  nos = by_number_nos counts at buffer
 
-  same_rows : first_of (by_number_nos counts at buffer) ≡ first_of (convert_nos counts at)
-  unfolding convert_nos
-  same_rows = rest ∙ sym (passed_first (stock_nos counts) _ (ap (λ (r : No). r.0) (accepted_back counts stock)))
+  abbrev rows : List No
+  rows = many_no counts ∷ above_no counts at ∷ []
 
-  held_is : held ≡ refusal (first_of (convert_nos counts at))
-  held_is = is ∙ ap refusal same_rows
+  -- laid: the strip stands in the buffer
+  module _ (z : (first_of nos).0 ≡ 0) where
+    pub laid_in : IsStock counts × (total counts < 2 ^ 64) × (at < total counts)
+    unfolding by_number_nos
+    laid_in =
+        let p = passed_both (buffer_nos counts buffer) rows z in
+        let n = accepted_number counts at p.1 in
+        ((accepted_buffer counts buffer p.0).0, n.0, n.1)
 
-  pub not_held : (held.no ≡ 0 → ⊥) → record { refusal = held; number = 0 } ≡ convert_answer (list_of filed counts) to counts at
-  unfolding convert_answer
-  not_held h = ap (λ (r : Refusal). record { refusal = r; number = 0 }) held_is ∙ answer_stopped as_filed 0 _ (convert_nos counts at) (stopped (convert_nos counts at) held held_is h)
+    module _ (l : Listing) (word : List ℕ) (after : word ≡ unless (first_of nos) buffer (get_or (list_of l counts) at [])) where
+      word_is : word ≡ get_or (list_of l counts) at []
+      word_is = after ∙ unless_passed buffer _ _ z
 
-  -- held: the strip stands in the buffer
-  module _ (z : held.no ≡ 0) (word : List ℕ) (after : word ≡ unless (first_of (by_number_nos counts at buffer)) buffer (get_or (list_of filed counts) at [])) where
-    none : (first_of (by_number_nos counts at buffer)).0 ≡ 0
-    none = passed (by_number_nos counts at buffer) held is z
+      pub word_own : IsStrip counts word
+      word_own = rw word_is (only l counts at laid_in.2)
 
-    pub held_in : (total counts < 2 ^ 64) × (at < total counts)
-    held_in = accepted_number counts at (rw rest at none)
+  -- a buffer that is long enough for a stock that is accepted leaves 1, 2, 3, then 7 and 8
+  module _ (room : IsStock counts → length buffer ≡ sum counts) where
+    same_rows : first_of nos ≡ first_of (convert_nos counts at)
+    unfolding by_number_nos buffer_nos convert_nos
+    same_rows = elim (ℕ_discrete (first_of (stock_nos counts)).0 0) [
+      | yes z ↦
+          let stock = accepted counts z in
+          passed_first (buffer_nos counts buffer) rows (accepted_buffer_back counts buffer stock (room stock)) ∙ sym (passed_first (stock_nos counts) rows z)
+      | no h ↦
+          let e : first_of (buffer_nos counts buffer) ≡ first_of (stock_nos counts) = refused_first (stock_nos counts) (length_no counts buffer ∷ []) h in
+          refused_first (buffer_nos counts buffer) rows (λ z. h (ap (λ (r : No). r.0) (sym e) ∙ z)) ∙ e ∙ sym (refused_first (stock_nos counts) rows h)
+    ]
 
-    pub word_is : word ≡ get_or (list_of filed counts) at []
-    word_is = after ∙ unless_passed buffer _ _ none
-
-    pub word_own : IsStrip counts word
-    word_own = rw word_is (only filed counts at held_in.1)
-
-    pub converted : (number : ℕ) → number ≡ place_in to word → as_filed fine number ≡ convert_answer (list_of filed counts) to counts at
+    -- refused
+    pub not_laid : (from to : List (List ℕ)) → ((first_of nos).0 ≡ 0 → ⊥) → as_filed (first_of nos) 0 ≡ convert_answer from to counts at
     unfolding convert_answer
-    converted number h = ap (as_filed fine) (h ∙ ap (place_in to) word_is) ∙ answer_passed as_filed 0 _ (convert_nos counts at) (rw same_rows at none)
+    not_laid from to h =
+        ap (λ (r : No). as_filed r 0) same_rows ∙ answer_stopped as_filed 0 (place_in to (get_or from at [])) (convert_nos counts at) (λ z. h (ap (λ (r : No). r.0) same_rows ∙ z))
+
+    -- the number of the strip that was laid
+    pub converted : (z : (first_of nos).0 ≡ 0) (l : Listing) (word : List ℕ) → word ≡ unless (first_of nos) buffer (get_or (list_of l counts) at []) → (to : List (List ℕ)) (number : ℕ) → number ≡ place_in to word
+        → as_filed (first_of nos) number ≡ convert_answer (list_of l counts) to counts at
+    unfolding convert_answer
+    converted z l word after to number h =
+        ap (λ (r : No). as_filed r number) (passed_fine nos z) ∙ ap (as_filed fine) (h ∙ ap (place_in to) (word_is z l word after)) ∙ answer_passed as_filed 0 _ (convert_nos counts at) (ap (λ (r : No). r.0) (sym same_rows) ∙ z)
