@@ -1,6 +1,6 @@
 -- Proofs. A loop that searches: so many strips of the list are passed, and fail. How it ends, and how it goes on.
 use Prim.Native.Nat.{ℕ, ◌+◌, ◌≤◌, ◌<◌}
-use mathlib.Core.Path.{◌≡◌, sym, ◌∙◌}
+use mathlib.Core.Path.{◌≡◌, refl, sym, ◌∙◌}
 use mathlib.Core.Bool.{Bool, true, false}
 use mathlib.Core.List.{List, []}
 use native.Mathlib.Decide.{ℕ_discrete}
@@ -8,6 +8,9 @@ use native.Mathlib.Omega.{arith}
 use lib.ListN.{length, get_or}
 use Rattle.searching.specs.Searching.{found_or}
 use Rattle.searching.specs.Sought.{Sought}
+use Rattle.searching.specs.Ended.{number_of}
+use Rattle.searching.specs.declared.Outcome.{Outcome}
+use Rattle.searching.specs.declared.Outcome.TheVariants.{Found, NoneLeft, Stopped}
 use Rattle.searching.proofs.First.{Fail}
 use Rattle.searching.proofs.Theorems.{found_is, none_left_is, stopped_is, not_found}
 
@@ -41,3 +44,9 @@ module _ (test : List ℕ → Bool) (l : List (List ℕ)) (given : ℕ) (s : Lis
   -- where none is found, the strip stays
   pub sought_kept : (end ≡ 1 → ⊥) → s ≡ found_or test l given s
   sought_kept n = sym (not_found test l given (λ o. n (q.outcome_is ∙ o)) s)
+
+-- an outcome that is numbered 1 is found
+pub found_one : (o : Outcome) → number_of o ≡ 1 → o ≡ Found
+found_one Found e = refl
+found_one NoneLeft e = absurd (omega arith)
+found_one Stopped e = absurd (omega arith)
