@@ -1,5 +1,5 @@
 -- Proofs. A strip turned round, block by block, and the search for a turn.
-use Prim.Native.Nat.{ℕ, zero, suc, ◌+◌, ◌-◌, ◌%◌, ◌≤◌, ◌<◌}
+use Prim.Native.Nat.{ℕ, zero, suc, ◌+◌, ◌-◌, ◌%◌, ◌<◌}
 use mathlib.Core.Path.{◌≡◌, refl, sym, ap, ◌∙◌}
 use mathlib.Core.Bool.{Bool, true, false, or-true, ◌||◌}
 use mathlib.Core.List.{List, [], ◌∷◌, ◌++◌, reverse, reverse-reverse, append-nil}
@@ -8,6 +8,7 @@ use native.Mathlib.Nat.{mod-lt, mod-eq_of_lt, mod-eq-sub-mod}
 use native.Mathlib.Omega.{arith}
 use lib.ListN.{length, get_or, take, drop, length-append, length-drop, length-take, length-map, length-reverse, get_or-append}
 use lib.Seq.{get_or_at, get_or-append-add, get_or-drop, get_or-take, ext_get_or}
+use Rattle.std.specs.Bool.{MatchBool}
 use Rattle.rules.specs.Book.{turn, same}
 use Rattle.rules.proofs.Listed.{get_or_map', get_d_reverse, length_turn, flip, flip_self}
 use Rattle.rules.proofs.Places.{same_self, same_not, same_true}
@@ -65,33 +66,26 @@ module _ (s : List ℕ) (i : ℕ) (some : 0 < length s) where
       let m : i % length s < length s = mod-lt i some in
       rw (length-reverse s) (sym (get_d_reverse s (i % length s) (length s - 1 - i % length s) 0 (omega arith)))
 
--- ---- comparing with the strip as it hangs, turned, i blocks passed
+-- ---- comparing with the strip as it hangs, turned by t places
 
-pub record Agreed (s : List ℕ) (back : Bool) (u : List ℕ) (t i : ℕ) : Type 0 where
-  pub passed : i ≤ length s
-  pub alike : (k : ℕ) → k < i → get_or (turned t (hung back s)) k 0 ≡ get_or u k 0
+-- the block of the strip so turned at a place is that of the other strip
+abbrev pub Alike : List ℕ → Bool → List ℕ → ℕ → ℕ → Type 0
+Alike s back u t i = block_at (hung back s) (i + t) ≡ get_or u i 0
 
-pub agreed_start : (s : List ℕ) (back : Bool) (u : List ℕ) (t : ℕ) → Agreed s back u t 0
-agreed_start s back u t = record { passed = omega arith; alike = λ k l. absurd (omega arith) }
-
-module _ (s : List ℕ) (back : Bool) (u : List ℕ) (t i : ℕ) (h : t < length s) (a : Agreed s back u t i) where
+module _ (s : List ℕ) (back : Bool) (u : List ℕ) (t : ℕ) (h : t < length s) (one : length s ≡ length u) where
   inside : t < length (hung back s)
   inside = omega (arith, hung_length back s)
 
-  next : i < length s → get_or (turned t (hung back s)) i 0 ≡ block_at (hung back s) (i + t)
-  next l = turned_at_lem (hung back s) t inside i (omega (arith, hung_length back s))
+  block_is : (i : ℕ) → i < length u → get_or (turned t (hung back s)) i 0 ≡ block_at (hung back s) (i + t)
+  block_is i l = turned_at_lem (hung back s) t inside i (omega (arith, hung_length back s))
 
-  pub agreed_on : i < length s → block_at (hung back s) (i + t) ≡ get_or u i 0 → Agreed s back u t (i + 1)
-  agreed_on l e = record { passed = omega arith; alike = λ k m. elim (ℕ_discrete k i) [ yes f ↦ rw f (next l ∙ e) | no f ↦ a.alike k (omega arith) ] }
-
-  pub agreed_not : i < length s → (block_at (hung back s) (i + t) ≡ get_or u i 0 → ⊥) → false ≡ same (turned t (hung back s)) u
-  agreed_not l d = sym (same_not (turned t (hung back s)) u (λ e. d (sym (next l) ∙ ap (λ (l : List ℕ). get_or l i 0) e)))
-
-  pub agreed_all : length s ≡ length u → length s ≤ i → true ≡ same (turned t (hung back s)) u
-  agreed_all n l =
-      let long : length (turned t (hung back s)) ≡ length s = turned_length (hung back s) t inside ∙ hung_length back s in
-      let e : turned t (hung back s) ≡ u = ext_get_or 0 (turned t (hung back s)) u (long ∙ n) (λ k m. a.alike k (omega (arith, long))) in
+  pub turn_agrees : (r : Bool) → MatchBool r ((i : ℕ) → i < length u → Alike s back u t i) ((i : ℕ) × (i < length u) × (Alike s back u t i → ⊥)) → r ≡ same (turned t (hung back s)) u
+  turn_agrees true a =
+      let long : length (turned t (hung back s)) ≡ length u = turned_length (hung back s) t inside ∙ hung_length back s ∙ one in
+      let e : turned t (hung back s) ≡ u = ext_get_or 0 (turned t (hung back s)) u long (λ i m. block_is i (omega (arith, long)) ∙ a i (omega (arith, long))) in
       rw e (sym (same_self u))
+  turn_agrees false (i, l, d) =
+      sym (same_not (turned t (hung back s)) u (λ e. d (sym (block_is i l) ∙ ap (λ (l : List ℕ). get_or l i 0) e)))
 
 -- ---- the list of the turns, by place
 
@@ -140,24 +134,19 @@ module _ (test : List ℕ → Bool) (s : List ℕ) (back : Bool) where
       let l : w.0 < length s = omega (arith, w.1, long) in
       (w.0, l, rw (at w.0 l) at w.2)
 
--- ---- the search for a turn of the strip as it hangs, those by fewer than t places passed
+-- ---- the search for a turn of the strip as it hangs
 
-pub record NoTurn (s : List ℕ) (back : Bool) (u : List ℕ) (t : ℕ) : Type 0 where
-  pub passed : t ≤ length s
-  pub none : (i : ℕ) → i < t → same (turned i (hung back s)) u ≡ false
+module _ (s : List ℕ) (back : Bool) (u : List ℕ) where
+  -- whether the strip as it hangs, turned by t places, is the other
+  abbrev pub Turn : Bool → ℕ → Type 0
+  Turn is t = is ≡ same (turned t (hung back s)) u
 
-pub turn_start : (s : List ℕ) (back : Bool) (u : List ℕ) → NoTurn s back u 0
-turn_start s back u = record { passed = omega arith; none = λ i l. absurd (omega arith) }
+  turn_hit : (t : ℕ) → t < length s → Turn true t → is_among (turns_of (hung back s)) u ≡ true
+  turn_hit t l e = some_turn (λ v. same v u) s back t l (sym e)
 
-module _ (s : List ℕ) (back : Bool) (u : List ℕ) (t : ℕ) where
-  pub turn_on : NoTurn s back u t → t < length s → false ≡ same (turned t (hung back s)) u → NoTurn s back u (t + 1)
-  turn_on n l e = record { passed = omega arith; none = λ i m. elim (ℕ_discrete i t) [ yes f ↦ rw f (sym e) | no f ↦ n.none i (omega arith) ] }
-
-  pub turn_hit : t < length s → true ≡ same (turned t (hung back s)) u → true ≡ is_among (turns_of (hung back s)) u
-  turn_hit l e = sym (some_turn (λ v. same v u) s back t l (sym e))
-
-  pub turn_none : NoTurn s back u t → length s ≤ t → false ≡ is_among (turns_of (hung back s)) u
-  turn_none n l = sym (no_turn (λ v. same v u) s back (λ i k. n.none i (omega arith)))
+  pub some_turn_is : (r : Bool) → MatchBool r ((t : ℕ) × (t < length s) × Turn true t) ((t : ℕ) → t < length s → Turn false t) → r ≡ is_among (turns_of (hung back s)) u
+  some_turn_is true (t, l, e) = sym (turn_hit t l e)
+  some_turn_is false none = sym (no_turn (λ v. same v u) s back (λ t l. sym (none t l)))
 
 -- ---- the turns of a strip as it stands, and then foot up
 
@@ -178,7 +167,7 @@ module _ (s u : List ℕ) where
 
   -- each turn of either is one, and nothing else is
   pub hung_turn : (back : Bool) (t : ℕ) → t < length s → turned t (hung back s) ≡ u → is_a_turn s u ≡ true
-  hung_turn back t l e = either_way ∙ go back (sym (turn_hit s back u t l (rw e (sym (same_self u)))))
+  hung_turn back t l e = either_way ∙ go back (turn_hit s back u t l (rw e (sym (same_self u))))
     where
       go : (back : Bool) → Turns back ≡ true → Turns false || Turns true ≡ true
       go false f = rw f

@@ -1,22 +1,20 @@
--- `papers::is_turn_of` meets its contract. The invariant: none of the turns passed is the second strip.
-use mathlib.Core.Path.{sym, ◌∙◌}
+-- `papers::is_turn_of` meets its contract: the second strip is one of the turns, or none of them.
+use Prim.Native.Nat.{ℕ}
+use mathlib.Core.Bool.{true, false}
 use native.Mathlib.Omega.{arith}
-use Rattle.papers.proofs.Turning.{turn_start, turn_on, turn_hit, turn_none}
+use lib.ListN.{length}
+use Rattle.std.proofs.Common.{rules, tests}
+use Rattle.std.proofs.lemmas.Iterator.{cases_from_any, YieldsList-from_range}
+use Rattle.papers.proofs.Below.{any_below}
+use Rattle.papers.proofs.Turning.{Turn, some_turn_is}
 use Rattle.papers.proofs.is_turn_of.Goals as goal
 
-pub turned_by-requires : goal.turned_by-requires
-turned_by-requires c =
-    let p = c.requires in
-    (p.0, p.1, omega arith)
-
-pub returns-then-turned_by : goal.returns-then-turned_by
-returns-then-turned_by c = turn_hit _ _ _ _ c.loop-t-test.true (sym c.if-turned_by.true ∙ c.turned_by.ensures)
-
-pub loop-t-preserved : goal.loop-t-preserved
-loop-t-preserved c = turn_on _ _ _ _ c.loop-t.invariant c.loop-t-test.true (sym c.if-turned_by.false ∙ c.turned_by.ensures)
-
 pub returns : goal.returns
-returns c = turn_none _ _ _ _ c.loop-t.invariant c.loop-t-test.false
-
-pub loop-t-init : goal.loop-t-init
-loop-t-init c = turn_start _ _ _
+returns c =
+    let a = c.args in
+    let n = length a.first.strip.now in
+    let one : ℕ → Type 0 = Turn a.first.strip.now a.first.back a.second.now true in
+    let other : ℕ → Type 0 = Turn a.first.strip.now a.first.back a.second.now false in
+    some_turn_is _ _ _ _
+    (any_below n one other _
+    (cases_from_any _ _ _ one other c.any.ensures.ran (YieldsList-from_range 0 n n (cc) (omega arith)) (λ x q k. search (rules, tests)) (λ x q k. search (rules, tests))))

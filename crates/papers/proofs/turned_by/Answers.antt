@@ -1,23 +1,19 @@
--- `papers::turned_by` meets its contract. The invariant: the blocks passed are alike.
-use mathlib.Core.Path.{sym, ◌∙◌}
+-- `papers::turned_by` meets its contract: the blocks are alike at every place, or not at some.
+use Prim.Native.Nat.{ℕ}
 use native.Mathlib.Omega.{arith}
-use Rattle.papers.proofs.Turning.{agreed_start, agreed_on, agreed_not, agreed_all}
+use lib.ListN.{length}
+use Rattle.std.proofs.Common.{rules, tests}
+use Rattle.std.proofs.lemmas.Iterator.{cases_from_all, YieldsList-from_range}
+use Rattle.papers.proofs.Below.{all_below}
+use Rattle.papers.proofs.Turning.{Alike, turn_agrees}
 use Rattle.papers.proofs.turned_by.Goals as goal
-
-pub block_at-requires : goal.block_at-requires
-block_at-requires c = let p = c.requires in (p.1, omega (arith, p.2))
-
-pub returns-then-block_at-second : goal.returns-then-block_at-second
-returns-then-block_at-second c =
-    agreed_not _ _ _ _ _ c.requires.2 c.loop-i.invariant (omega arith) (λ e. c.if-block_at-second.true (c.block_at.ensures ∙ e))
-
-pub loop-i-preserved : goal.loop-i-preserved
-loop-i-preserved c =
-    agreed_on _ _ _ _ _ c.requires.2 c.loop-i.invariant (omega arith) (sym c.block_at.ensures ∙ c.if-block_at-second.false)
 
 pub returns : goal.returns
 returns c =
-    agreed_all _ _ _ _ _ c.requires.2 c.loop-i.invariant c.requires.0 (omega arith)
-
-pub loop-i-init : goal.loop-i-init
-loop-i-init c = agreed_start _ _ _ _
+    let a = c.args in
+    let n = length a.second.now in
+    let same_there : ℕ → Type 0 = Alike a.first.strip.now a.first.back a.second.now a.t in
+    let other_there : ℕ → Type 0 = λ i. same_there i → ⊥ in
+    turn_agrees _ _ _ _ c.requires.below c.requires.long _
+    (all_below n same_there other_there _
+    (cases_from_all _ _ _ same_there other_there c.all.ensures.ran (YieldsList-from_range 0 n n (cc) (omega arith)) (λ x q k. search (rules, tests)) (λ x q k. search (rules, tests))))
