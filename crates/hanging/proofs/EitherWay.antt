@@ -6,7 +6,9 @@ use mathlib.Core.Logic.{◌⊎◌, inl, inr}
 use mathlib.Core.List.{List}
 use native.Mathlib.Decide.{dec_lt}
 use native.Mathlib.Omega.{arith}
+use lib.Dec.{ltb}
 use lib.ListN.{length}
+use Rattle.std.proofs.lemmas.Bool.{lt-ltb, le-ltb}
 use Rattle.rules.specs.Book.{turn}
 use Rattle.papers.specs.Papers.{turned, hung, turns}
 use Rattle.papers.specs.Blocks.{block_at}
@@ -39,11 +41,12 @@ module _ (s : List ℕ) (back : Bool) (t u : ℕ) (in_one : t < length s) (in_ot
   one : length v ≡ length w
   one = hung_length back s ∙ sym (hung_length (not back) s)
 
-  pub turn_lower : k < length s → block_at v (t + k) < block_at w (u + k) → true ≡ before (turned t v) (turned u w)
-  turn_lower l d = lower_first v w (omega (arith, in_v)) (omega (arith, in_w)) one t u in_v in_w k a (omega (arith, hung_length back s)) d
-
-  pub turn_higher : k < length s → block_at w (u + k) < block_at v (t + k) → false ≡ before (turned t v) (turned u w)
-  turn_higher l d = higher_last v w (omega (arith, in_v)) (omega (arith, in_w)) one t u in_v in_w k a (omega (arith, hung_length back s)) d
+  -- at the first block in which they differ the lower decides
+  pub turn_unlike : k < length s → (x y : ℕ) → x ≡ block_at v (t + k) → y ≡ block_at w (u + k) → (x ≡ y → ⊥) → ltb x y ≡ before (turned t v) (turned u w)
+  turn_unlike l x y e f d = elim (dec_lt x y) [
+    | yes p ↦ lt-ltb _ _ p ∙ lower_first v w (omega (arith, in_v)) (omega (arith, in_w)) one t u in_v in_w k a (omega (arith, hung_length back s)) (omega (arith, e, f))
+    | no p ↦ le-ltb _ _ (omega arith) ∙ higher_last v w (omega (arith, in_v)) (omega (arith, in_w)) one t u in_v in_w k a (omega (arith, hung_length back s)) (omega (arith, e, f))
+  ]
 
   pub turn_alike : length s ≤ k → false ≡ before (turned t v) (turned u w)
   turn_alike l = all_alike v w (omega (arith, in_v)) (omega (arith, in_w)) one t u in_v in_w k a (omega (arith, hung_length back s))

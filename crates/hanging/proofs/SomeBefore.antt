@@ -6,6 +6,7 @@ use mathlib.Core.List.{List}
 use native.Mathlib.Decide.{dec_lt}
 use native.Mathlib.Omega.{arith}
 use lib.ListN.{length, get_or}
+use mir.Val.{bool_byte}
 use Rattle.rules.specs.Book.{turn}
 use Rattle.searching.specs.Searching.{some}
 use Rattle.papers.specs.Papers.{turned, turns_of, hung}
@@ -79,9 +80,15 @@ module _ (s : List ℕ) (h : 0 < length s) (back : Bool) (own : back ≡ true �
   unfolding turn
   as_it_stands e = ap (λ (b : Bool). hung b s) e
 
-  pub none_start : (t : ℕ) → (back ≡ true → t ≡ 0) × (back ≡ false → t ≡ 1) → (t ≤ 1) × NoneBefore s back t 0
-  none_start t (up, down) = (small back refl, record { started = λ e. omega (arith, down e); none = go back refl; alike = alike_none v t s 0 })
+  pub none_start : (t : ℕ) → t ≡ bool_byte (not back) → (t ≤ 1) × NoneBefore s back t 0
+  none_start t first = (small back refl, record { started = λ e. omega (arith, down e); none = go back refl; alike = alike_none v t s 0 })
     where
+      up : back ≡ true → t ≡ 0
+      up e = rw e at first
+
+      down : back ≡ false → t ≡ 1
+      down e = rw e at first
+
       small : (b : Bool) → back ≡ b → t ≤ 1
       small true e = omega (arith, up e)
       small false e = omega (arith, down e)

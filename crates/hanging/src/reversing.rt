@@ -2,6 +2,8 @@
 ghost use Rattle.std.specs.Prelude.{◌-◌, ◌≤◌, ◌≡◌, true, length};
 ghost use Rattle.papers.specs.Papers.{turned, hung};
 
+use crate::either::Hanging;
+
 // Puts the blocks in front in reverse order, and then the others: so the strip is reversed, and then turned by as many places as there are others.
 fn reverse_parts(strip: &mut [u8], front: usize)
     requires { front ≤ length strip.old }
@@ -11,14 +13,13 @@ fn reverse_parts(strip: &mut [u8], front: usize)
     strip[front..].reverse();
 }
 
-// Hangs a strip foot up or not and turns it by t places, where it lies. The last step reverses it, so a strip that is not to hang foot up is reversed before.
-pub fn hang(strip: &mut [u8], back: bool, t: usize)
-    requires { t ≤ length strip.old }
-    ensures { strip.new ≡ turned t (hung back strip.old) }
+// Hangs a strip so, where it lies. The last step reverses it, so a strip that is not to be reversed is reversed before.
+pub fn hang(strip: &mut [u8], so: Hanging)
+    requires { so.turn ≤ length strip.old }
+    ensures { strip.new ≡ turned so.turn (hung so.reversed strip.old) }
 {
-    let n = strip.len();
-    let front = n - t;
-    if !back {
+    let front = strip.len() - so.turn;
+    if !so.reversed {
         strip.reverse();
     }
     reverse_parts(strip, front);

@@ -5,23 +5,16 @@ use Rattle.papers.proofs.Turning.{hung_length}
 use Rattle.hanging.proofs.EitherWay.{back_stands, there_stands}
 use Rattle.hanging.proofs.either.least_hanging.Goals as goal
 
-pub turn_before-requires : goal.turn_before-requires
-turn_before-requires c =
-    let s = c.args.strip.now in
-    let there = c.least_turn-there.ensures.inside in
-    let back = c.least_turn-back.ensures.inside in
-    (c.requires.0, omega (arith, there, back, hung_length true s, hung_length false s), omega (arith, there, back, hung_length true s, hung_length false s))
+pub turn_before-requires-clause-one : goal.turn_before-requires-clause-one
+turn_before-requires-clause-one c = omega (arith, c.least_turn-back.ensures.inside, hung_length true c.args.strip.now)
+
+pub turn_before-requires-clause-other : goal.turn_before-requires-clause-other
+turn_before-requires-clause-other c = omega (arith, c.least_turn-there.ensures.inside, hung_length false c.args.strip.now)
 
 pub returns-then-turn_before : goal.returns-then-turn_before
 returns-then-turn_before c =
-    back_stands _ c.requires.1 _ _ c.least_turn-there.ensures c.least_turn-back.ensures _ c.turn_before.ensures c.if-turn_before.true
+    back_stands _ c.requires _ _ c.least_turn-there.ensures c.least_turn-back.ensures _ c.turn_before.ensures c.if-turn_before.true
 
 pub returns : goal.returns
 returns c =
-    there_stands _ c.requires.1 _ _ c.least_turn-there.ensures c.least_turn-back.ensures _ c.turn_before.ensures c.if-turn_before.false
-
-pub least_turn-there-requires : goal.least_turn-there-requires
-least_turn-there-requires c = c.requires
-
-pub least_turn-back-requires : goal.least_turn-back-requires
-least_turn-back-requires c = c.requires
+    there_stands _ c.requires _ _ c.least_turn-there.ensures c.least_turn-back.ensures _ c.turn_before.ensures c.if-turn_before.false

@@ -7,7 +7,7 @@ use Rattle.hanging.proofs.Leading.{Leading}
 use Rattle.hanging.proofs.least.least_turn.Given as goal
 
 abbrev pub invariant-loop-t : goal.invariant-loop-t
-invariant-loop-t l = (length (hung l.back l.strip) ≡ length l.strip) × (l.t ≤ 2 * length l.strip) × (l.k < length l.strip) × Leading (hung l.back l.strip) l.best l.t l.k
+invariant-loop-t l = (length (hung l.paper.back l.paper.strip.now) ≡ length l.paper.strip.now) × (l.t ≤ 2 * length l.paper.strip.now) × (l.k < length l.paper.strip.now) × Leading (hung l.paper.back l.paper.strip.now) l.best l.t l.k
 
 abbrev pub decreases-loop-t : goal.decreases-loop-t
-decreases-loop-t l = 4 * length l.strip - (l.best + l.t + l.k)
+decreases-loop-t l = 4 * length l.paper.strip.now - (l.best + l.t + l.k)
