@@ -1,5 +1,5 @@
 -- What the functions here promise of one place. No open call's contract cites it, so nothing here is to be believed. Places are counted from 0.
-use Rattle.std.specs.Prelude.{ℕ, suc, ◌-◌, ◌≤◌, ◌<◌, ◌≡◌, List, length, get_or}
+use Rattle.std.specs.Prelude.{ℕ, suc, ◌-◌, ◌≤◌, ◌<◌, ◌≡◌, Option, None, Some, List, length, get_or}
 
 -- of n places, all from i on but the last of all are behind both
 pub record Begins (n seen changed i : ℕ) : Type 0 where
@@ -15,7 +15,7 @@ pub record FreeFrom (s : List ℕ) (i : ℕ) : Type 0 where
   pub within : i < length s
   pub free : (k : ℕ) → i ≤ k → suc k < length s → get_or s k 0 ≡ get_or s (suc k) 0 → ⊥
 
--- and the one before it is, where there is one
-pub record IsLast (s : List ℕ) (last : ℕ) : Type 0 where
-  pub behind : FreeFrom s last
-  pub alike : (last ≡ 0 → ⊥) → get_or s (last - 1) 0 ≡ get_or s last 0
+-- the last place that is like the one before it, where there is one
+abbrev pub IsLast : List ℕ → Option ℕ → Type 0
+IsLast s None = FreeFrom s 0
+IsLast s (Some i) = FreeFrom s i × (0 < i) × (get_or s (i - 1) 0 ≡ get_or s i 0)

@@ -10,41 +10,32 @@ fn begin(n: usize, seen: usize, changed: usize) -> usize
     requires { (seen < n) × (changed < n) }
     ensures { Begins n seen changed result }
 {
-    if changed < seen {
-        return seen;
-    }
-    if changed + 1 < n {
-        return changed + 1;
-    }
-    changed
+    seen.max(changed + 1).min(n - 1)
 }
 
-// The last place, counted from 1, whose block is like the next one; 0 where there is none. `seen` is that place in the strip before a move, and `changed` the
-// larger place, counted from 0, that the move changed: no place behind both is such, so only those in front are looked at.
-pub fn last_touching(strip: &[u8], seen: usize, changed: usize) -> usize
+// The last place whose block is like the one before it, where there is one. `seen` is that place in the strip before a move, or 0 where it had none, and
+// `changed` the larger place that the move changed: no place behind both is like the next, so only those in front are looked at.
+pub fn last_touching(strip: &[u8], seen: usize, changed: usize) -> Option<usize>
     requires { (seen < length strip.now) × (changed < length strip.now) × FreeBehind strip.now seen changed }
     ensures { IsLast strip.now result }
 {
-    let mut i = begin(strip.len(), seen, changed);
-    while 0 < i {
+    let from = begin(strip.len(), seen, changed);
+    for i in (1..from + 1).rev() {
         if strip[i - 1] == strip[i] {
-            return i;
+            return Some(i);
         }
-        i -= 1;
     }
-    0
+    None
 }
 
-// Whether no two of a kind touch, by the last place that is like the next one. On an endless paper the last place of all touches the first.
-pub fn is_apart(strip: &[u8], endless: bool, last: usize) -> bool
+// Whether no two of a kind touch, by the last place that is like the one before it. On an endless paper the last place of all touches the first.
+pub fn is_apart(strip: &[u8], endless: bool, last: Option<usize>) -> bool
     requires { IsLast strip.now last }
     ensures { result ≡ stands_apart endless strip.now }
 {
-    if last != 0 {
-        return false;
+    match last {
+        Some(_) => false,
+        None if endless => strip[strip.len() - 1] != strip[0],
+        None => true,
     }
-    if endless {
-        return strip[strip.len() - 1] != strip[0];
-    }
-    true
 }
