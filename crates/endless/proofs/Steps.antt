@@ -5,23 +5,30 @@ use mathlib.Core.Bool.{Bool, true, false}
 use mathlib.Core.List.{List, []}
 use native.Mathlib.Omega.{arith}
 use lib.ListN.{length, get_or}
+use Rattle.std.specs.Prelude.{Result, Ok}
+use Rattle.std.specs.Result.{IsErrAnd}
+use Rattle.std.proofs.lemmas.Result.{err_from_is_err_and}
 use Rattle.rules.specs.Stock.{IsStrip}
 use Rattle.rules.specs.Book.{place_in}
-use Rattle.rules.specs.Refusals.{first_of, check_nos}
-use Rattle.rules.proofs.Refusals.{passed_fine, unless_refused, unless_passed}
-use Rattle.stock.specs.declared.Refusal.{Refusal}
-use Rattle.stock.specs.Refused.{refusal}
+use Rattle.rules.specs.Refusals.{No, fine, first_of, check_nos}
+use Rattle.rules.proofs.Refusals.{unless_refused}
+use Rattle.stock.specs.declared.refused.Refused.{Refused}
+use Rattle.stock.specs.Refused.{no_of, refusal}
+use Rattle.stock.proofs.Told.{stopped, stopped_left, passed_left}
 use Rattle.dictionary.specs.Dictionary.{dictionary}
 use Rattle.dictionary.proofs.Theorems.{dictionary_only, dictionary_place}
 use Rattle.succession.specs.Steps.{Advanced}
 use Rattle.searching.specs.Searching.{later}
 use Rattle.searching.specs.Sought.{Sought}
+use Rattle.searching.specs.Ended.{number_of, EndsSo}
+use Rattle.searching.specs.declared.Ended.{Ended}
+use Rattle.searching.specs.declared.Outcome.TheVariants.{Found}
 use Rattle.searching.proofs.Later.{later_at}
 use Rattle.searching.proofs.First.{Fail}
-use Rattle.searching.proofs.Loops.{fail_on, sought_none, sought_stopped, sought_found, sought_kept}
+use Rattle.searching.proofs.Loops.{fail_on, sought_none, sought_stopped, sought_found, sought_kept, found_one}
 use Rattle.standing.specs.Standing.{stands_for_paper}
 use Rattle.endless.specs.Answers.{paper_outcome, paper_steps, paper_after, next_paper_answer, next_paper_after}
-use Rattle.endless.specs.declared.next_paper.Stepped.{Stepped}
+use Rattle.endless.specs.Inner.{stepped}
 use Rattle.endless.proofs.Later.{later_length}
 
 -- so many steps lead from s to t, and none of the strips passed is standing
@@ -68,29 +75,32 @@ module _ (counts s : List ℕ) (h : IsStrip counts s) (given : ℕ) (t : List �
 
 -- ---- the call, from the search on a copy of the strip
 
--- what it answers, and what it leaves in the strip
-abbrev pub Steps : List ℕ → List ℕ → ℕ → List ℕ → Stepped → Type 0
-Steps counts s given after r = (r ≡ next_paper_answer counts s given) × (after ≡ next_paper_after counts s given)
+-- what it comes to, and what it leaves in the strip
+abbrev pub Steps : List ℕ → List ℕ → ℕ → List ℕ → Result Ended Refused → Type 0
+Steps counts s given left r = (stepped r ≡ next_paper_answer counts s given) × (left ≡ next_paper_after counts s given)
 
 module _ (counts s : List ℕ) (given : ℕ) where
-  pub stepped_refused : (r : Refusal) → r ≡ refusal (first_of (check_nos counts s)) → ((first_of (check_nos counts s)).0 ≡ 0 → ⊥)
-      → Steps counts s given s (record { refusal = r; outcome = 0; steps = 0 })
+  pub stepped_refused : (r : Result Ended Refused) (e : Refused) → IsErrAnd r (λ y. y ≡ e) → no_of e ≡ first_of (check_nos counts s) → Steps counts s given s r
   unfolding next_paper_answer next_paper_after
-  stepped_refused r e n =
+  stepped_refused r e h is =
+      let p = err_from_is_err_and r h in
       let k = first_of (check_nos counts s) in
-      (rw (e, unless_refused 0 (paper_outcome counts s given) k n, unless_refused 0 (paper_steps counts s given) k n), sym (unless_refused s _ k n))
+      let n = stopped (check_nos counts s) e is in (
+        rw (p.1, p.2) (ap (λ (q : No). record { refusal = refusal q; outcome = 0; steps = 0 }) is ∙ rw (unless_refused 0 (paper_outcome counts s given) k n, unless_refused 0 (paper_steps counts s given) k n)),
+        stopped_left (check_nos counts s) s (paper_after counts s given) e is,
+      )
 
-  module _ (z : (first_of (check_nos counts s)).0 ≡ 0) (end steps : ℕ) (t : List ℕ) (q : Sought stands_for_paper (later (dictionary counts) s) given s end steps t) where
-    answered : ◌≡◌ {A = Stepped} record { refusal = record { no = 0; place = 0 }; outcome = end; steps = steps } (next_paper_answer counts s given)
+  module _ (fits : fine ≡ first_of (check_nos counts s)) (e : Ended) (t : List ℕ) (q : EndsSo stands_for_paper (later (dictionary counts) s) given s e t) where
+    ended : stepped (Ok e) ≡ next_paper_answer counts s given
     unfolding next_paper_answer paper_outcome paper_steps
-    answered = rw (passed_fine (check_nos counts s) z, q.outcome_is, q.steps_are)
+    ended = rw (← fits, q.outcome_is, q.steps_are)
 
     -- found, and written back
-    pub stepped_found : (after : List ℕ) → end ≡ 1 → after ≡ t → Steps counts s given after (record { refusal = record { no = 0; place = 0 }; outcome = end; steps = steps })
+    pub stepped_found : (left : List ℕ) → e.outcome ≡ Found → left ≡ t → Steps counts s given left (Ok e)
     unfolding next_paper_after paper_after
-    stepped_found after o e = (answered, e ∙ q.strip_is o ∙ sym (unless_passed s _ (first_of (check_nos counts s)) z))
+    stepped_found left o f = (ended, f ∙ q.strip_is (ap number_of o) ∙ passed_left (check_nos counts s) s _ fits)
 
     -- not found: the strip stays
-    pub stepped_kept : (end ≡ 1 → ⊥) → Steps counts s given s (record { refusal = record { no = 0; place = 0 }; outcome = end; steps = steps })
+    pub stepped_kept : (e.outcome ≡ Found → ⊥) → Steps counts s given s (Ok e)
     unfolding next_paper_after paper_after
-    stepped_kept n = (answered, sought_kept stands_for_paper (later (dictionary counts) s) given s end steps t q n ∙ sym (unless_passed s _ (first_of (check_nos counts s)) z))
+    stepped_kept n = (ended, sought_kept stands_for_paper (later (dictionary counts) s) given s (number_of e.outcome) e.steps t q (λ o. n (found_one e.outcome o)) ∙ passed_left (check_nos counts s) s _ fits)

@@ -1,9 +1,10 @@
 // The strip that stands for a paper.
 ghost use Rattle.std.specs.Prelude.{◌≡◌};
 ghost use Rattle.endless.specs.Answers.{stand_answer, stand_after};
+ghost use Rattle.endless.specs.Inner.{stood};
 
-use hanging::{hang, least_hanging};
-use stock::{Refusal, check_strip};
+use hanging::{Hanging, hang, least_hanging};
+use stock::{Refusal, Refused, check_strip};
 
 // Whether a strip was reversed, and by how many places it was then turned.
 #[repr(C)]
@@ -14,26 +15,30 @@ pub struct Stood {
     pub reversed: bool,
 }
 
+// The strip of an accepted stock becomes the one that stands for its paper.
+fn hang_standing(stock: &[u16], strip: &mut [u8]) -> Result<Hanging, Refused>
+    ensures { (stood result ≡ stand_answer stock.now strip.old) × (strip.new ≡ stand_after stock.now strip.old) }
+{
+    check_strip(stock, strip)?;
+    let least = least_hanging(strip);
+    hang(strip, least);
+    Ok(least)
+}
+
 // The strip becomes the one that stands for its paper.
 pub fn stand(stock: &[u16], strip: &mut [u8]) -> Stood
     ensures { (result ≡ stand_answer stock.now strip.old) × (strip.new ≡ stand_after stock.now strip.old) }
 {
-    let checked = check_strip(stock, strip);
-    let no = checked.no;
-    if no != 0 {
-        return Stood {
-            refusal: checked,
+    match hang_standing(stock, strip) {
+        Ok(hung) => Stood {
+            refusal: Refusal::NONE,
+            turn: hung.turn as u64,
+            reversed: hung.reversed,
+        },
+        Err(refused) => Stood {
+            refusal: refused.into(),
             turn: 0,
             reversed: false,
-        };
-    }
-    let least = least_hanging(strip);
-    let t = least.turn;
-    let reversed = least.reversed;
-    hang(strip, reversed, t);
-    Stood {
-        refusal: Refusal { no: 0, place: 0 },
-        turn: t as u64,
-        reversed,
+        },
     }
 }
