@@ -16,8 +16,7 @@ use Rattle.rules.proofs.Refusals.{when_is}
 use Rattle.walking.specs.Answers.{along, onward}
 use Rattle.strides.specs.Strides.{value, stride_nos}
 use Rattle.strides.proofs.Rows.{stride_is}
-use Rattle.following.specs.Following.{Followed, refused_at, more, choice, ended, whole, if_made, next_no, by_kind, follow_past, follow, as_readout}
-use Rattle.following.specs.Ends.{readout_of}
+use Rattle.following.specs.Following.{Followed, refused_at, more, choice, ended, whole, if_made, next_no, by_kind, follow_past, follow}
 
 -- ---- by the first byte of what is left
 
@@ -103,12 +102,12 @@ module _ (strides : Bool) (counts s sheet : List ℕ) (at : ℕ) where
 
 -- ---- the end
 
-module _ (i at : ℕ) (sheet : List ℕ) where
-  pub end_more : at + 1 < length sheet → as_readout (11, at + 1) 0 ≡ readout_of i (ended [] at (drop (at + 1) sheet))
+module _ (at : ℕ) (sheet : List ℕ) where
+  pub end_more : at + 1 < length sheet → (11, at + 1) ≡ (ended [] at (drop (at + 1) sheet)).no
   end_more h = rw (drop-cons sheet (at + 1) 0 h)
 
-  pub end_last : length sheet ≤ at + 1 → as_readout fine i ≡ readout_of i (ended [] at (drop (at + 1) sheet))
-  end_last h = rw (drop_of_length-le sheet h) (ap (as_readout fine) (omega arith))
+  pub end_last : length sheet ≤ at + 1 → fine ≡ (ended [] at (drop (at + 1) sheet)).no
+  end_last h = rw (drop_of_length-le sheet h)
 
 -- ---- a record's row refuses it, or none does
 

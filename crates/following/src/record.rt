@@ -1,105 +1,95 @@
 // The records at a byte that are alike: moves, or in edition 2 a stride.
-ghost use Rattle.std.specs.Prelude.{◌<◌, ◌≡◌, ◌&&◌, true, [], ◌∷◌, eqb, length, get_or};
-ghost use Rattle.rules.specs.Book.{same};
+ghost use Rattle.std.specs.Prelude.{◌<◌, ◌≡◌, true, length, get_or};
+ghost use Rattle.rules.specs.Stock.{IsStock, IsStrip};
 ghost use Rattle.walking.specs.Checked.{Checked};
-ghost use Rattle.following.specs.Ends.{Took, TookAny};
+ghost use Rattle.following.specs.Editions.{has_strides};
+ghost use Rattle.following.specs.Ends.{NextMove, Took, TookAny};
 
+use crate::Edition;
+use stock::{Reason, Refused};
 use strides::bytes::number_at;
 use strides::making::stride_on;
 use walker::Walker;
 use walker::directions::walker_of;
-use walking::Moved;
 use walking::stepping::step;
 
-// What records come to: the bytes of those that are passed, with their moves and the walker behind them; or the number of the refusal that the
-// record behind these bytes meets.
+// The kinds of the records behind the strip.
+const MOVE: u8 = 3;
+
+pub const END: u8 = 4;
+
+const STRIDE: u8 = 5;
+
+// Records that are passed: the walker behind them, their bytes and their moves.
 #[derive(Clone, Copy)]
 pub struct Taken {
-    pub no: u8,
     pub walker: Walker,
     pub bytes: usize,
     pub moves: u64,
 }
 
-// Records of which one is refused.
-fn stopped(no: u8, walker: Walker, bytes: usize) -> Taken
-    ensures { result ≡ record { no = no; walker = walker; bytes = bytes; moves = 0 } }
+// Makes the next move of the strip, where it is the one that exchanges these two places; answers the walker behind it.
+fn make_move(stock: &[u16], strip: &mut [u8], walker: Walker, low: u8, high: u8) -> Option<Walker>
+    requires { Checked stock.now strip.old walker }
+    ensures { NextMove stock.now strip.old low high result strip.new }
 {
-    Taken {
-        no,
-        walker,
-        bytes,
-        moves: 0,
+    let made = step(stock, strip, walker, false)?;
+    if made.low != low || made.high != high {
+        return None;
     }
-}
-
-// Whether a move was made and exchanged these two places.
-fn is_move(made: Moved, low: u8, high: u8) -> bool
-    ensures { result ≡ (eqb made.refusal.no 0 && same (made.low ∷ made.high ∷ []) (low ∷ high ∷ [])) }
-{
-    let refusal = made.refusal;
-    let no = refusal.no;
-    if no != 0 {
-        return false;
-    }
-    if made.low != low {
-        return false;
-    }
-    made.high == high
+    Some(made.walker)
 }
 
 // The moves from a byte on, one after the other: each is the next one of the strip, or 12.
-fn take_moves(sheet: &[u8], from: usize, stock: &[u16], strip: &mut [u8], walker: Walker) -> Taken
+fn take_moves(
+    sheet: &[u8],
+    from: usize,
+    stock: &[u16],
+    strip: &mut [u8],
+    walker: Walker,
+) -> Result<Taken, Refused>
     requires { Checked stock.now strip.old walker × (from < length sheet.now) × (get_or sheet.now from 0 ≡ 3) }
     ensures { TookAny stock.now sheet.now strip.old from result strip.new }
 {
     let mut walker = walker;
     let mut at = from;
     let mut moves: u64 = 0;
-    while at < sheet.len() {
-        if sheet[at] != 3 {
-            break;
-        }
+    // The byte goes on by a whole record, and a refusal tells at which one, so no iterator is plainer.
+    while at < sheet.len() && sheet[at] == MOVE {
         if sheet.len() - at < 3 {
-            return stopped(11, walker, at - from);
+            return Err(Reason::Record.at(at));
         }
-        let made = step(stock, strip, walker, false);
-        if !is_move(made, sheet[at + 1], sheet[at + 2]) {
-            return stopped(12, walker, at - from);
-        }
-        let next = made.walker;
+        let Some(next) = make_move(stock, strip, walker, sheet[at + 1], sheet[at + 2]) else {
+            return Err(Reason::Astray.at(at));
+        };
         walker = next;
         at += 3;
         moves += 1;
     }
-    Taken {
-        no: 0,
+    Ok(Taken {
         walker,
         bytes: at - from,
         moves,
-    }
+    })
 }
 
 // The stride at a byte.
-fn take_stride(sheet: &[u8], at: usize, stock: &[u16], strip: &mut [u8], walker: Walker) -> Taken
-    requires { Checked stock.now strip.old walker × (at < length sheet.now) × (get_or sheet.now at 0 ≡ 5) }
+fn take_stride(sheet: &[u8], at: usize, stock: &[u16], strip: &mut [u8]) -> Result<Taken, Refused>
+    requires { IsStock stock.now × IsStrip stock.now strip.old × (at < length sheet.now) × (get_or sheet.now at 0 ≡ 5) }
     ensures { Took true stock.now sheet.now strip.old at result strip.new }
 {
     if sheet.len() - at < 9 {
-        return stopped(11, walker, 0);
+        return Err(Reason::Record.at(at));
     }
     let moves = number_at(sheet, at + 1);
-    let no = stride_on(stock, strip, moves);
-    if no != 0 {
-        return stopped(no, walker, 0);
+    if let Err(reason) = stride_on(stock, strip, moves) {
+        return Err(reason.at(at));
     }
-    let next = walker_of(stock, strip);
-    Taken {
-        no: 0,
-        walker: next,
+    Ok(Taken {
+        walker: walker_of(stock, strip),
         bytes: 9,
         moves,
-    }
+    })
 }
 
 // The records at a byte that is no end: moves, a stride where there are any, or 11.
@@ -109,20 +99,14 @@ pub fn take_records(
     stock: &[u16],
     strip: &mut [u8],
     walker: Walker,
-    strides: bool,
-) -> Taken
+    edition: Edition,
+) -> Result<Taken, Refused>
     requires { Checked stock.now strip.old walker × (at < length sheet.now) × (get_or sheet.now at 0 ≡ 4 → ⊥) }
-    ensures { Took strides stock.now sheet.now strip.old at result strip.new }
+    ensures { Took (has_strides edition) stock.now sheet.now strip.old at result strip.new }
 {
-    let kind = sheet[at];
-    if kind == 3 {
-        return take_moves(sheet, at, stock, strip, walker);
+    match sheet[at] {
+        MOVE => take_moves(sheet, at, stock, strip, walker),
+        STRIDE if edition.has_strides() => take_stride(sheet, at, stock, strip),
+        _ => Err(Reason::Record.at(at)),
     }
-    if kind != 5 {
-        return stopped(11, walker, 0);
-    }
-    if !strides {
-        return stopped(11, walker, 0);
-    }
-    take_stride(sheet, at, stock, strip, walker)
 }
