@@ -1,6 +1,8 @@
 // How a sheet ends behind its first records, rightly or wrongly, and what is to come of it then: so many moves in all, or a refusal.
+ghost use Rattle.std.specs.Prelude.{◌<◌};
+
 use crate::editions::Page;
-use stock::Refusal;
+use crate::table::{Reason, Refused};
 
 // Where the records before an ending lead: the strip's number, how many moves are left from there, how many were made, and the places of the next one;
 // and whether the book has fewer than 2^64 strips.
@@ -14,46 +16,40 @@ pub struct Stand {
     pub numbered: bool,
 }
 
-pub type Due = Result<usize, Refusal>;
+pub type Due = Result<usize, Refused>;
 
 // A refusal is placed at the first byte of an ending, or at the one behind where an end stands there.
-fn refused(no: u8, at: usize, kind: u8) -> Refusal {
-    let place = if kind == 4 { at.saturating_add(1) } else { at };
-    Refusal {
-        no,
-        place: place as u64,
-    }
+fn refused(reason: Reason, at: usize, kind: u8) -> Refused {
+    reason.at(if kind == 4 { at.saturating_add(1) } else { at })
 }
 
-// An ending of few bytes, and the number of its refusal.
-fn put_few(page: &mut Page, made: usize, bytes: &[u8], no: Option<u8>) -> Due {
+// An ending of few bytes, and why it is refused.
+fn put_few(page: &mut Page, made: usize, bytes: &[u8], reason: Option<Reason>) -> Due {
     let at = page.end;
     let kind = bytes.first().copied().unwrap_or(0);
     page.put(bytes);
-    match no {
-        Some(no) => Err(refused(no, at, kind)),
+    match reason {
+        Some(reason) => Err(refused(reason, at, kind)),
         None if kind == 3 => Ok(made.saturating_add(1)),
         None => Ok(made),
     }
 }
 
 // The end, alone or with a byte behind it, nothing at all, and records that no sheet has there.
-fn put_without_move(page: &mut Page, made: usize, which: usize) -> Due {
-    match which {
-        0 => put_few(page, made, &[4], None),
-        1 => put_few(page, made, &[], Some(11)),
-        2 => put_few(page, made, &[4, 4], Some(11)),
-        3 => put_few(page, made, &[0, 4], Some(11)),
-        4 => put_few(page, made, &[1, 4], Some(11)),
-        5 => put_few(page, made, &[2, 4], Some(11)),
-        6 => put_few(page, made, &[6, 4], Some(11)),
-        _ => put_few(page, made, &[255, 4], Some(11)),
-    }
-}
+const WITHOUT_MOVE: [(&[u8], Option<Reason>); 8] = [
+    (&[4], None),
+    (&[], Some(Reason::Record)),
+    (&[4, 4], Some(Reason::Record)),
+    (&[0, 4], Some(Reason::Record)),
+    (&[1, 4], Some(Reason::Record)),
+    (&[2, 4], Some(Reason::Record)),
+    (&[6, 4], Some(Reason::Record)),
+    (&[255, 4], Some(Reason::Record)),
+];
 
-// 12 where no move is left.
-fn next_no(left: usize) -> Option<u8> {
-    (left == 0).then_some(12)
+// Why the next move is refused: where none is left.
+fn next_reason(left: usize) -> Option<Reason> {
+    (left == 0).then_some(Reason::Astray)
 }
 
 // A move that is cut short, that is not the next one, or that is, where one is left.
@@ -62,12 +58,17 @@ fn put_with_move(page: &mut Page, stand: Stand, which: usize) -> Due {
     let low = stand.low;
     let high = stand.high;
     match which {
-        0 => put_few(page, made, &[3], Some(11)),
-        1 => put_few(page, made, &[3, low], Some(11)),
-        2 => put_few(page, made, &[3, high, low, 4], Some(12)),
-        3 => put_few(page, made, &[3, low, low, 4], Some(12)),
-        4 => put_few(page, made, &[3, low, high.wrapping_add(1), 4], Some(12)),
-        _ => put_few(page, made, &[3, low, high, 4], next_no(stand.left)),
+        0 => put_few(page, made, &[3], Some(Reason::Record)),
+        1 => put_few(page, made, &[3, low], Some(Reason::Record)),
+        2 => put_few(page, made, &[3, high, low, 4], Some(Reason::Astray)),
+        3 => put_few(page, made, &[3, low, low, 4], Some(Reason::Astray)),
+        4 => put_few(
+            page,
+            made,
+            &[3, low, high.wrapping_add(1), 4],
+            Some(Reason::Astray),
+        ),
+        _ => put_few(page, made, &[3, low, high, 4], next_reason(stand.left)),
     }
 }
 
@@ -76,19 +77,19 @@ fn put_cut(page: &mut Page, body: usize) -> Due {
     let at = page.end;
     page.put_stride(2);
     page.end = at.saturating_add(1).saturating_add(body);
-    Err(refused(11, at, 5))
+    Err(Reason::Record.at(at))
 }
 
-// What a stride meets: 17, then 7, then 12.
-fn stride_no(stand: Stand, moves: u64) -> Option<u8> {
+// Why a stride is refused: first for its size, then for the total, then for the moves that are left.
+fn stride_reason(stand: Stand, moves: u64) -> Option<Reason> {
     if moves < 2 {
-        return Some(17);
+        return Some(Reason::Stride);
     }
     if !stand.numbered {
-        return Some(7);
+        return Some(Reason::Many);
     }
     if (stand.left as u64) < moves {
-        return Some(12);
+        return Some(Reason::Astray);
     }
     None
 }
@@ -98,8 +99,8 @@ fn put_strided(page: &mut Page, stand: Stand, moves: u64) -> Due {
     let at = page.end;
     page.put_stride(moves);
     page.put_end();
-    match stride_no(stand, moves) {
-        Some(no) => Err(refused(no, at, 5)),
+    match stride_reason(stand, moves) {
+        Some(reason) => Err(reason.at(at)),
         None => Ok(stand.made.saturating_add(moves as usize)),
     }
 }
@@ -110,42 +111,46 @@ fn around(number: usize) -> u64 {
 }
 
 // Strides about the moves that are left, and such as would wrap.
-fn near(stand: Stand, which: usize) -> u64 {
-    match which {
-        0 => 0,
-        1 => 1,
-        2 => stand.left as u64,
-        3 => (stand.left as u64).saturating_add(1),
-        4 => around(stand.here),
-        5 => around(stand.made),
-        _ => u64::MAX,
-    }
+fn near(stand: Stand) -> [u64; 7] {
+    let left = stand.left as u64;
+    [
+        0,
+        1,
+        left,
+        left.saturating_add(1),
+        around(stand.here),
+        around(stand.made),
+        u64::MAX,
+    ]
 }
 
 // Strides that would be 2 if a byte were left out, or if the lowest came first, and one of half the numbers.
-fn far(which: usize) -> u64 {
-    match which {
-        0 => 258,
-        1 => 65538,
-        2 => 16777218,
-        3 => 4294967298,
-        4 => 1099511627778,
-        5 => 281474976710658,
-        6 => 72057594037927938,
-        7 => 144115188075855872,
-        _ => 9223372036854775808,
-    }
-}
+const FAR: [u64; 9] = [
+    258,
+    65538,
+    16777218,
+    4294967298,
+    1099511627778,
+    281474976710658,
+    72057594037927938,
+    144115188075855872,
+    9223372036854775808,
+];
 
 pub const ENDINGS: usize = 38;
 
-// Puts one of the endings on a page.
-pub fn put_ending(page: &mut Page, stand: Stand, which: usize) -> Due {
+// Puts one of the endings on a page, by its place in their row: without a move, with one, with a stride that is cut short, and with a whole one.
+pub fn put_ending(page: &mut Page, stand: Stand, which: usize) -> Due
+    requires { which < 38 }
+{
     match which {
-        0..=7 => put_without_move(page, stand.made, which),
+        0..=7 => {
+            let (bytes, reason) = WITHOUT_MOVE[which];
+            put_few(page, stand.made, bytes, reason)
+        }
         8..=13 => put_with_move(page, stand, which - 8),
         14..=21 => put_cut(page, which - 14),
-        22..=28 => put_strided(page, stand, near(stand, which - 22)),
-        _ => put_strided(page, stand, far(which.saturating_sub(29))),
+        22..=28 => put_strided(page, stand, near(stand)[which - 22]),
+        _ => put_strided(page, stand, FAR[which - 29]),
     }
 }

@@ -2,7 +2,7 @@
 // sorted by comparing strips block by block.
 use crate::rows::{Book, Row, Rows, Word};
 use crate::search::compare_papers;
-use crate::single::is;
+use crate::table::{NONE, Reason};
 use crate::tally::{Call, Tally};
 use converting::{to_book, to_dictionary};
 use drawers::Filed;
@@ -12,14 +12,14 @@ use drawers::strip::dictionary_strip;
 
 // Whether an answer is this number, and no refusal.
 fn answer_agrees(filed: Filed, number: usize) -> bool {
-    filed.number == number as u64 && is(filed.refusal, 0)
+    filed.number == number as u64 && filed.refusal == NONE
 }
 
 // The lent strip is all zeros, since it could else hold the very strip that is to come.
 fn strip_agrees(dictionary: &Book, i: usize) -> bool {
     let mut word: Word = [0; 8];
     let refusal = dictionary_strip(dictionary.stock, i as u64, &mut word[..dictionary.blocks]);
-    is(refusal, 0) && word == dictionary.word(i)
+    refusal == NONE && word == dictionary.word(i)
 }
 
 // From the strip at an index of the dictionary to the one on from it; refusal 9 where the strip stays.
@@ -28,8 +28,8 @@ fn next_agrees(dictionary: &Book, i: usize) -> bool {
     let mut word = dictionary.word(i);
     let refusal = dictionary_next(dictionary.stock, &mut word[..dictionary.blocks]);
     match next {
-        Some(j) => word == dictionary.word(j) && is(refusal, 0),
-        None => word == dictionary.word(i) && is(refusal, 9),
+        Some(j) => word == dictionary.word(j) && refusal == NONE,
+        None => word == dictionary.word(i) && refusal == Reason::NoMove.at(0).refusal(),
     }
 }
 

@@ -1,20 +1,19 @@
 // Writing and rewriting into the one form of edition 2, compared with that form by the document's words.
 use crate::editions::{Page, SPACE};
 use crate::pressed::{BEFORE, Sheet};
-use crate::single::{is, meets};
+use crate::table::{NONE, Reason, Refused, refusal_of};
 use crate::tally::{Call, Tally};
 use forms::long::write_long;
 use rewriting::rewrite::rewrite;
 use sheets::Written;
-use stock::Refusal;
 
 // What is to come of writing: the form, or a refusal.
-type Due<'a> = Result<&'a Page, Refusal>;
+type Due<'a> = Result<&'a Page, Refused>;
 
 // What is to come in so much room: first 13, where the form takes more.
 fn in_room<'a>(form: &Page, room: usize, due: Due<'a>) -> Due<'a> {
     if room < form.end {
-        return Err(Refusal { no: 13, place: 0 });
+        return Err(Reason::Room.at(0));
     }
     due
 }
@@ -25,7 +24,7 @@ fn page_agrees(page: &[u8; SPACE], written: Written, due: Due) -> bool {
         Ok(form) => *form,
         Err(_) => Sheet::new(),
     };
-    meets(written.refusal, &due) && written.length == left.end as u64 && *page == left.bytes
+    written.refusal == refusal_of(due) && written.length == left.end as u64 && *page == left.bytes
 }
 
 // So many moves from a strip of a stock, which are to be written.
@@ -54,7 +53,7 @@ pub fn compare_room(tally: &mut Tally, order: Order, room: usize, due: Due) {
 }
 
 // Writing with more room than the form takes, with as much and with one byte less.
-pub fn compare_written(tally: &mut Tally, order: Order, form: &Page, left: Result<(), Refusal>) {
+pub fn compare_written(tally: &mut Tally, order: Order, form: &Page, left: Result<(), Refused>) {
     let due = left.map(|()| form);
     for room in [SPACE, form.end, form.end.saturating_sub(1)] {
         compare_room(tally, order, room, in_room(form, room, due));
@@ -64,7 +63,7 @@ pub fn compare_written(tally: &mut Tally, order: Order, form: &Page, left: Resul
 fn rewrite_call(due: Due) -> Call {
     match due {
         Ok(_) => Call::Rewrite,
-        Err(refusal) if refusal.no == 13 => Call::RewriteRoom,
+        Err(refused) if refused.reason == Reason::Room => Call::RewriteRoom,
         Err(_) => Call::RewriteRefused,
     }
 }
@@ -90,7 +89,7 @@ fn again_agrees(sheet: &[u8]) -> bool {
         return false;
     }
     let second = rewrite(&once[..first.length as usize], &mut twice);
-    is(second.refusal, 0) && first.length == second.length && once == twice
+    second.refusal == NONE && first.length == second.length && once == twice
 }
 
 // Rewriting with more room than the form takes, with as much and with one byte less, and again. A refused sheet has no form: it is tried in no room at all,

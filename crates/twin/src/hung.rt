@@ -1,6 +1,6 @@
 // The calls on strips that are hung endless compared with a book: Same paper, Stand. The strips are of as many blocks as those of the book.
 use crate::rows::{Book, Word};
-use crate::single::is;
+use crate::table::NONE;
 use crate::tally::{Call, Tally};
 use crate::turns::{is_turn, least_turn, turn_at, turns, word_at};
 use endless::stand::{Stood, stand};
@@ -13,7 +13,7 @@ fn asked(book: &Book, first: &Word, second: &Word) -> Asked {
 fn same_agrees(book: &Book, first: &Word, second: &Word) -> bool {
     let asked = asked(book, first, second);
     let is_due = is_turn(&first[..book.blocks], second);
-    asked.same == is_due && is(asked.refusal, 0)
+    asked.same == is_due && asked.refusal == NONE
 }
 
 // The strip that Stand leaves, and what it answers.
@@ -26,7 +26,7 @@ fn stood(book: &Book, strip: Word) -> (Word, Stood) {
 // The strip that Stand leaves where it answers no refusal.
 fn standing(book: &Book, strip: &Word) -> Option<Word> {
     let (word, stood) = stood(book, *strip);
-    is(stood.refusal, 0).then_some(word)
+    (stood.refusal == NONE).then_some(word)
 }
 
 // Two strips have the same standing strip exactly where Same paper says yes.
@@ -43,7 +43,7 @@ fn stand_agrees(book: &Book, i: usize) -> bool {
     word == word_at(strip, due)
         && stood.turn == turn.places as u64
         && stood.reversed == turn.reversed
-        && is(stood.refusal, 0)
+        && stood.refusal == NONE
 }
 
 // Standing a strip that stands reverses nothing, turns it by no place, and leaves it.
@@ -51,7 +51,7 @@ fn again_agrees(book: &Book, i: usize) -> bool {
     match standing(book, &book.word(i)) {
         Some(before) => {
             let (word, stood) = stood(book, before);
-            word == before && stood.turn == 0 && !stood.reversed && is(stood.refusal, 0)
+            word == before && stood.turn == 0 && !stood.reversed && stood.refusal == NONE
         }
         None => false,
     }

@@ -33,6 +33,7 @@ mod spoiled;
 mod stocks;
 mod stood;
 mod strode;
+mod table;
 mod tally;
 mod turns;
 mod vast;

@@ -6,8 +6,8 @@ use crate::formed::{Order, compare_rewritten, compare_written};
 use crate::patterns::bit;
 use crate::rows::{Book, places};
 use crate::strode::compare_read;
+use crate::table::{Reason, Refused};
 use crate::tally::Tally;
-use stock::Refusal;
 
 // The most moves that are put into parts.
 const MOST: usize = 6;
@@ -58,10 +58,10 @@ fn compare_cuts(tally: &mut Tally, book: &Book, number: usize, made: usize) {
     }
 }
 
-// 9 where fewer moves are left.
-fn unless_left(left: usize, moves: usize) -> Result<(), Refusal> {
+// Refused where fewer moves are left.
+fn unless_left(left: usize, moves: usize) -> Result<(), Refused> {
     if left < moves {
-        return Err(Refusal { no: 9, place: 0 });
+        return Err(Reason::NoMove.at(0));
     }
     Ok(())
 }

@@ -1,7 +1,7 @@
 // The calls on two strips compared with a book: Which, Earlier, Distance.
 use crate::parting::parting_kind;
 use crate::rows::Book;
-use crate::single::is;
+use crate::table::NONE;
 use crate::tally::{Call, Tally};
 use comparing::earlier::earlier;
 use comparing::which::which;
@@ -19,7 +19,7 @@ fn code(order: Ordering) -> u8 {
 
 fn which_agrees(stock: &[u16], first: &[u8], second: &[u8], order: Ordering) -> bool {
     let compared = which(stock, first, second);
-    compared.which == code(order) && is(compared.refusal, 0)
+    compared.which == code(order) && compared.refusal == NONE
 }
 
 fn kind_agrees(stock: &[u16], first: &[u8], second: &[u8]) -> bool {
@@ -36,7 +36,7 @@ fn earlier_agrees(stock: &[u16], first: &[u8], second: &[u8], order: Ordering) -
 
 fn distance_agrees(stock: &[u16], first: &[u8], second: &[u8], moves: i64) -> bool {
     let apart = distance(stock, first, second);
-    apart.moves == moves && is(apart.refusal, 0)
+    apart.moves == moves && apart.refusal == NONE
 }
 
 // One number minus another, of small ones.

@@ -2,11 +2,10 @@
 ghost use Rattle.std.specs.Prelude.{◌≤◌};
 
 use crate::rows::Book;
-use crate::single::meets;
 use crate::stood::{Due, Told, due};
+use crate::table::{Reason, refusal_of};
 use crate::tally::{Call, Tally};
 use replaying::replay::{Replayed, replay};
-use stock::Refusal;
 
 fn answer_agrees(replayed: Replayed, told: Told) -> bool {
     replayed.walked == told.walked as u64
@@ -23,13 +22,15 @@ fn replay_agrees(book: &Book, from: usize, due: Due, pairs: &[u8]) -> bool {
     });
     let mut word = book.word(from);
     let replayed = replay(book.stock, &mut word[..book.blocks], pairs);
-    word == book.word(told.to) && meets(replayed.refusal, &due) && answer_agrees(replayed, told)
+    word == book.word(told.to)
+        && replayed.refusal == refusal_of(due)
+        && answer_agrees(replayed, told)
 }
 
 // A book of more than 4,096 strips is refused, whatever the pairs are.
 fn unless_large(book: &Book, due: Due) -> Due {
     if 4096 < book.rows.len() {
-        return Err(Refusal { no: 15, place: 0 });
+        return Err(Reason::Large.at(0));
     }
     due
 }
@@ -46,7 +47,7 @@ pub fn compare_replay(
     let awaited = unless_large(book, due);
     let call = match awaited {
         Ok(_) => right,
-        Err(refusal) if refusal.no == 15 => Call::ReplayLarge,
+        Err(refused) if refused.reason == Reason::Large => Call::ReplayLarge,
         Err(_) => Call::ReplayWrong,
     };
     tally.note(call, replay_agrees(book, from, awaited, pairs));

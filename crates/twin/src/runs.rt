@@ -1,6 +1,7 @@
 // Run compared with a book.
 use crate::rows::{Book, exchange};
-use crate::single::{directed, is, opened_walker};
+use crate::single::{directed, opened_walker};
+use crate::table::NONE;
 use crate::tally::{Call, Tally};
 use running::run::{Ran, run};
 
@@ -17,7 +18,7 @@ pub fn number_after(book: &Book, back: bool, m: usize) -> usize {
 fn answer_agrees(ran: Ran, book: &Book, moves: usize, to: usize) -> bool {
     ran.moves == moves as u64
         && ran.ended == (moves == book.last())
-        && is(ran.refusal, 0)
+        && ran.refusal == NONE
         && directed(&ran.walker, book.directions(to))
 }
 

@@ -1,46 +1,28 @@
 // The calls on one strip, or none, compared with a book: Count, First, Number, Strip, Open.
 use crate::patterns::has;
 use crate::rows::{Book, Word};
+use crate::table::NONE;
 use counting::count::count;
 use counting::first::first;
 use numbering::number::number;
 use numbering::strip::strip;
-use stock::Refusal;
 use walker::Walker;
 use walker::open::open;
 
-// Whether two refusals are the same: C's record says it of no two.
-pub fn same_refusal(one: Refusal, other: Refusal) -> bool {
-    one.no == other.no && one.place == other.place
-}
-
-// Whether a refusal has this number, and place 0.
-pub fn is(refusal: Refusal, no: u8) -> bool {
-    same_refusal(refusal, Refusal { no, place: 0 })
-}
-
-// Whether a refusal is the one that is to come, or none where an answer is.
-pub fn meets<T: Copy>(refusal: Refusal, due: &Result<T, Refusal>) -> bool {
-    match due {
-        Ok(_) => is(refusal, 0),
-        Err(awaited) => same_refusal(refusal, *awaited),
-    }
-}
-
 pub fn count_agrees(book: &Book) -> bool {
     let counted = count(book.stock);
-    counted.total == book.rows.len() as u64 && is(counted.refusal, 0)
+    counted.total == book.rows.len() as u64 && counted.refusal == NONE
 }
 
 pub fn first_agrees(book: &Book) -> bool {
     let mut word: Word = [0; 8];
     let refusal = first(book.stock, &mut word[..book.blocks]);
-    is(refusal, 0) && word == book.word(0)
+    refusal == NONE && word == book.word(0)
 }
 
 pub fn number_agrees(book: &Book, i: usize) -> bool {
     let numbered = number(book.stock, book.strip(i));
-    numbered.number == i as u64 && is(numbered.refusal, 0)
+    numbered.number == i as u64 && numbered.refusal == NONE
 }
 
 // Whether Number reports the uses of the rule that were counted while the book was built.
@@ -52,7 +34,7 @@ pub fn cuts_agree(book: &Book, i: usize) -> bool {
 pub fn strip_agrees(book: &Book, i: usize) -> bool {
     let mut word: Word = [0; 8];
     let refusal = strip(book.stock, i as u64, &mut word[..book.blocks]);
-    is(refusal, 0) && word == book.word(i)
+    refusal == NONE && word == book.word(i)
 }
 
 // Whether a walker has the directions of a strip.
@@ -62,7 +44,7 @@ pub fn directed(walker: &Walker, directions: u8) -> bool {
 
 pub fn open_agrees(book: &Book, i: usize) -> bool {
     let opened = open(book.stock, book.strip(i));
-    is(opened.refusal, 0) && directed(&opened.walker, book.directions(i))
+    opened.refusal == NONE && directed(&opened.walker, book.directions(i))
 }
 
 // The walker that Open gives.

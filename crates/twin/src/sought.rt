@@ -1,6 +1,6 @@
 // What is to come of a search among the strips of a book: each strip that is looked for is marked, and a step leads to the next row.
 use crate::rows::Book;
-use crate::single::is;
+use crate::table::NONE;
 use stock::Refusal;
 
 // How a search ends, by the numbers that the calls answer: a marked strip is found, none is left, or the given steps end.
@@ -49,7 +49,7 @@ pub fn due(book: &Book, index: usize, next: Option<usize>, given: u64) -> Outcom
 
 // Whether an answer is what is to come, and no refusal.
 pub fn answer_agrees(refusal: Refusal, ending: u8, steps: u64, due: Outcome) -> bool {
-    ending == due.ending as u8 && steps == due.steps && is(refusal, 0)
+    ending == due.ending as u8 && steps == due.steps && refusal == NONE
 }
 
 // Given steps: 0 to 3, those to the last strip, one less, one more, and the most that there are.

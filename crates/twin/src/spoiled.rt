@@ -2,7 +2,7 @@
 // byte spoiled in turn; and with every byte spoiled from one on.
 use crate::pressed::{BEFORE, Sheet};
 use crate::rows::Book;
-use crate::single::meets;
+use crate::table::{NONE, Reason};
 use crate::tally::{Call, Tally};
 use reading::reader::read_sheet;
 use rebuilding::Rebuilt;
@@ -39,9 +39,20 @@ impl Told {
     };
 }
 
+// A refusal is as C has it, since it can be one that the reader gave.
 type Due = Result<Told, Refusal>;
 
 impl Full {
+    fn of(book: &Book, number: usize) -> Full {
+        let left = book.last().saturating_sub(number);
+        let mut sheet = Sheet::opened(book.stock, book.strip(number));
+        for made in 0..left.min(MOST) {
+            sheet.put_next(book, number.saturating_add(made));
+        }
+        sheet.put_end();
+        Full { sheet, left }
+    }
+
     // The sheet of the first moves.
     fn sheet_of(&self, moves: usize) -> Sheet<ROOM> {
         let mut sheet = Sheet::new();
@@ -78,7 +89,7 @@ fn told_of(full: &Bytes, damaged: &Bytes, moves: usize) -> Told {
 // The refusal of the first two records: the reader's, where it is none of the moves and the end, whose places are from byte 82 on.
 fn check_records(sheet: &[u8]) -> Result<(), Refusal> {
     let refusal = read_sheet(sheet, &mut [0; 64]).refusal;
-    if refusal.no != 0 && refusal.place < 82 {
+    if refusal != NONE && refusal.place < 82 {
         return Err(refusal);
     }
     Ok(())
@@ -87,23 +98,23 @@ fn check_records(sheet: &[u8]) -> Result<(), Refusal> {
 // What is to come of the first bytes of a damaged sheet, in so much room.
 fn due(full: &Full, damaged: &Bytes, length: usize, room: usize) -> Due {
     if length < 82 {
-        return Err(Refusal { no: 11, place: 0 });
+        return Err(Reason::Record.at(0).refusal());
     }
     check_records(damaged.get(..length).unwrap_or(damaged))?;
     let moves = full.left.min((length - 82) / 3);
     if room < 83 + 3 * moves.min(MOST) {
-        return Err(Refusal { no: 13, place: 0 });
+        return Err(Reason::Room.at(0).refusal());
     }
     Ok(told_of(&full.sheet.bytes, damaged, moves))
 }
 
 // What is answered, and whether the second buffer has the sheet of so many moves, or where the sheet is refused, is as it was.
 fn answer_agrees(rebuilt: Rebuilt, out: &Bytes, full: &Full, due: Due) -> bool {
-    let (told, sheet) = match due {
-        Ok(told) => (told, full.sheet_of(told.moves)),
-        Err(_) => (Told::NOTHING, Sheet::new()),
+    let (told, sheet, refusal) = match due {
+        Ok(told) => (told, full.sheet_of(told.moves), NONE),
+        Err(refusal) => (Told::NOTHING, Sheet::new(), refusal),
     };
-    meets(rebuilt.refusal, &due)
+    rebuilt.refusal == refusal
         && rebuilt.moves == told.moves as u64
         && rebuilt.differing == told.differing as u64
         && rebuilt.first == told.first as u64
@@ -158,20 +169,10 @@ fn compare_byte(tally: &mut Tally, full: &Full, sheet: &Sheet<ROOM>, i: usize, b
 
 // The sheets from the strip of a number.
 pub fn compare_sheets(tally: &mut Tally, book: &Book, number: usize) {
-    let full = full_of(book, number);
+    let full = Full::of(book, number);
     let sheet = full.sheet_of(full.left.min(3));
     compare_lengths(tally, &full, &sheet.bytes);
     for (i, byte) in sheet.written().iter().enumerate() {
         compare_byte(tally, &full, &sheet, i, *byte);
     }
-}
-
-fn full_of(book: &Book, number: usize) -> Full {
-    let left = book.last().saturating_sub(number);
-    let mut sheet = Sheet::opened(book.stock, book.strip(number));
-    for made in 0..left.min(MOST) {
-        sheet.put_next(book, number.saturating_add(made));
-    }
-    sheet.put_end();
-    Full { sheet, left }
 }

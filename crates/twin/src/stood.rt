@@ -1,7 +1,7 @@
 // What is to come of exchanges by hand, by the document's words: the strips that stood on the bar are written down one after the other, and compared with
 // those of the book.
 use crate::rows::{Book, Word, exchange};
-use stock::Refusal;
+use crate::table::{Reason, Refused};
 
 // The most exchanges that are written down here.
 pub const MOST: usize = 10;
@@ -16,7 +16,7 @@ pub struct Told {
 }
 
 // What is to come of a replay. Where it is refused the strip stays, and nothing is told of it.
-pub type Due = Result<Told, Refusal>;
+pub type Due = Result<Told, Refused>;
 
 // Whether the book has a strip next after another.
 fn follows(book: &Book, before: &Word, word: &Word) -> bool {
@@ -68,10 +68,7 @@ fn wrong(pairs: &[u8], n: usize) -> Option<usize> {
 // What is to come of a list of pairs from the strip of a number.
 pub fn due(book: &Book, from: usize, pairs: &[u8]) -> Due {
     if let Some(number) = wrong(pairs, book.blocks) {
-        return Err(Refusal {
-            no: 16,
-            place: number as u64,
-        });
+        return Err(Reason::Pair.at(number));
     }
     let mut word = book.word(from);
     let mut stood: [Word; 1 + MOST] = [word; 1 + MOST];

@@ -3,11 +3,10 @@ use crate::editions::Page;
 use crate::endings::Due;
 use crate::pressed::BEFORE;
 use crate::rows::padded;
-use crate::single::meets;
+use crate::table::{Reason, refusal_of};
 use crate::tally::{Call, Tally};
 use following::Readout;
 use reading::reader::{read_editions, read_sheet};
-use stock::Refusal;
 
 // A buffer has some bytes more than the longest strip.
 const BUFFER: usize = 70;
@@ -18,7 +17,7 @@ fn answer_agrees(readout: Readout, buffer: &[u8; BUFFER], due: Due, to: &[u8]) -
         Ok(moves) => (moves, padded(to, BEFORE)),
         Err(_) => (0, [BEFORE; BUFFER]),
     };
-    meets(readout.refusal, &due) && readout.moves == moves as u64 && *buffer == left
+    readout.refusal == refusal_of(due) && readout.moves == moves as u64 && *buffer == left
 }
 
 // One of the readers.
@@ -35,13 +34,10 @@ fn read_agrees<F: Fn(&[u8], &mut [u8]) -> Readout>(
     answer_agrees(readout, &buffer, due, to)
 }
 
-// What is to come of a sheet in the old reader: 11 at the first stride.
+// What is to come of a sheet in the old reader, which refuses the first stride.
 fn in_edition_1(page: &Page, due: Due) -> Due {
     match page.stride {
-        Some(at) => Err(Refusal {
-            no: 11,
-            place: at as u64,
-        }),
+        Some(at) => Err(Reason::Record.at(at)),
         None => due,
     }
 }
@@ -50,10 +46,10 @@ fn in_edition_1(page: &Page, due: Due) -> Due {
 fn new_call(due: Due) -> Call {
     match due {
         Ok(_) => Call::ReadRight,
-        Err(refusal) => match refusal.no {
-            7 => Call::ReadVast,
-            11 => Call::ReadUnknown,
-            12 => Call::ReadPast,
+        Err(refused) => match refused.reason {
+            Reason::Many => Call::ReadVast,
+            Reason::Record => Call::ReadUnknown,
+            Reason::Astray => Call::ReadPast,
             _ => Call::ReadLow,
         },
     }

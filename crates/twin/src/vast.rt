@@ -9,8 +9,8 @@ use crate::endings::{ENDINGS, Stand, put_ending};
 use crate::formed::{Order, compare_room, compare_written};
 use crate::orders::compare_sheet;
 use crate::pressed::Sheet;
+use crate::table::{Reason, Refused};
 use crate::tally::Tally;
-use stock::Refusal;
 
 const STOCK: [u16; 16] = [4; 16];
 
@@ -90,10 +90,10 @@ fn compare_endings(tally: &mut Tally, from: Side, made: usize) {
     }
 }
 
-// 9 for any move from the last strip.
-fn unless_left(from: Side, moves: usize) -> Result<(), Refusal> {
+// Any move from the last strip is refused.
+fn unless_left(from: Side, moves: usize) -> Result<(), Refused> {
     match from {
-        Side::Last if 0 < moves => Err(Refusal { no: 9, place: 0 }),
+        Side::Last if 0 < moves => Err(Reason::NoMove.at(0)),
         _ => Ok(()),
     }
 }
@@ -116,7 +116,7 @@ fn compare_large(tally: &mut Tally, from: Side, moves: u64) {
         strip: &strip_of(from, 0),
         moves,
     };
-    let due = Err(Refusal { no: 13, place: 0 });
+    let due = Err(Reason::Room.at(0));
     compare_room(tally, order, SPACE, due);
 }
 

@@ -1,6 +1,7 @@
 // Walk compared with a book.
 use crate::rows::{Book, exchange};
-use crate::single::{directed, is, opened_walker};
+use crate::single::{directed, opened_walker};
+use crate::table::{NONE, Reason};
 use walking::Moved;
 use walking::walk::walk;
 
@@ -11,9 +12,11 @@ fn answer_agrees(moved: Moved, book: &Book, i: usize, next: Option<usize>) -> bo
             let mut word = book.word(i);
             exchange(&mut word[..book.blocks], moved.low, moved.high)
                 && word == book.word(j)
-                && is(moved.refusal, 0)
+                && moved.refusal == NONE
         }
-        None => moved.low == 0 && moved.high == 0 && is(moved.refusal, 9),
+        None => moved.low == 0
+            && moved.high == 0
+            && moved.refusal == Reason::NoMove.at(0).refusal(),
     }
 }
 
