@@ -4,3 +4,4 @@
 mod runs;
 pub mod steps;
 
+pub use steps::step_left;

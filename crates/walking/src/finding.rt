@@ -4,7 +4,7 @@ ghost use Rattle.rules.proofs.Index.{rests};
 ghost use Rattle.moves.specs.Steps.{step_of};
 ghost use Rattle.walking.specs.Checked.{Checked, IsMove, TakesWord, FindsStep};
 
-use left::steps::step_left;
+use left::step_left;
 use moves::{Step, next, prev};
 use walker::Walker;
 
