@@ -139,7 +139,8 @@ const FAR: [u64; 9] = [
 
 pub const ENDINGS: usize = 38;
 
-// Puts one of the endings on a page, by its place in their row: without a move, with one, with a stride that is cut short, and with a whole one.
+// Puts one of the endings on a page, by its place in their row, since they are trials and no kinds: without a move, with one, with
+// a stride that is cut short, and with a whole one.
 pub fn put_ending(page: &mut Page, stand: Stand, which: usize) -> Due
     requires { which < 38 }
 {

@@ -9,7 +9,8 @@ pub struct Word {
     pub uses: u8,
 }
 
-// A list: its words in order, at most 35 of them.
+// A list: its words in order, at most 35 of them, in fixed memory as the rows of a book are. That bound is no invariant of the type, since the proof that an
+// element of an array of arrays is read does not close where the element has one.
 #[derive(Clone, Copy)]
 pub struct List {
     words: [Word; 35],

@@ -27,7 +27,7 @@ impl Row {
     };
 }
 
-// Rows that are written down one after the other.
+// Rows that are written down one after the other. They are in fixed memory, since a failing allocation would change what is printed.
 #[derive(Drop)]
 pub struct Rows {
     rows: [Row; MOST],
@@ -132,7 +132,8 @@ pub fn exchange(strip: &mut [u8], low: u8, high: u8) -> bool {
     strip[a - 1] != strip[b - 1]
 }
 
-// The first place at which two strips differ, and the last; zeros where they are the same.
+// The first place at which two strips differ, and the last. Zeros where they are the same, as in the records and answers that they are compared with, which an
+// Option would have to become again.
 pub fn places(one: &Word, other: &Word) -> (u8, u8) {
     let mut low: u8 = 0;
     let mut high: u8 = 0;

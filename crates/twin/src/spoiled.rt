@@ -23,7 +23,8 @@ struct Full {
     left: usize,
 }
 
-// What is to come of a sheet that is rebuilt: how many moves it has, how many of them have other records in the damaged one, and the first of those, from 1.
+// What is to come of a sheet that is rebuilt: how many moves it has, how many of them have other records in the damaged one, and the first of those, from 1,
+// or 0 as Rebuild answers it.
 #[derive(Clone, Copy)]
 struct Told {
     moves: usize,

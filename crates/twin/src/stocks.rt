@@ -3,7 +3,7 @@ ghost use Rattle.std.specs.Prelude.{◌≤◌};
 
 use crate::patterns::has;
 
-// A stock of at most eight kinds: the counts of as many.
+// A stock of at most eight kinds: the counts of as many, in fixed memory as the rows of a book are.
 #[derive(Clone, Copy)]
 pub struct Parts {
     counts: [u16; 8],
