@@ -2,12 +2,10 @@
 use Prim.Native.Nat.{ℕ, ◌≤◌, ◌<◌}
 use mathlib.Core.Path.{◌≡◌, sym, ap, ◌∙◌}
 use mathlib.Core.List.{List, [], ◌∷◌}
-use native.Mathlib.Omega.{arith}
 use borrow.Author.Tests.{ltb-false, lt-ltb, le-ltb}
 use Rattle.rules.specs.Stock.{sum, total}
-use Rattle.rules.specs.Refusals.{No, fine, at_place, first_of, unless, many_no}
-use Rattle.rules.proofs.Refusals.{at_place_lem, many_no_lem}
-use Rattle.rules.proofs.Prefixes.{zero_many, some_few}
+use Rattle.rules.specs.Refusals.{No, fine, at_place, first_of}
+use Rattle.rules.proofs.Refusals.{at_place_lem}
 use Rattle.rules.proofs.Checks.{when_passed, at_passed, passed_head}
 use Rattle.bar.specs.Pairs.{wrong_from, large_no, pairs_no}
 use Rattle.bar.proofs.Pairs.{Right, none_wrong_right, right_none_wrong}
@@ -16,37 +14,26 @@ module _ (counts pairs : List ℕ) where
   abbrev rows : List No
   rows = large_no counts ∷ pairs_no counts pairs ∷ []
 
-  -- ---- by T, or 0 where it is 2^64 or more, and then by the number of the first wrong pair
+  -- ---- by T, and then by the number of the first wrong pair
 
-  module _ (t : ℕ) (is : t ≡ unless (many_no counts) 0 (total counts)) where
-    large : 4096 < total counts → (15, 0) ≡ first_of rows
+  pub fifteen : 4096 < total counts → (15, 0) ≡ first_of rows
+  unfolding first_of
+  fifteen l = rw (lt-ltb 4096 (total counts) l)
+
+  module _ (small : total counts ≤ 4096) (n : ℕ) (blocks : n ≡ sum counts) (w : ℕ) (w_is : w ≡ wrong_from 1 n pairs) where
+    wrong_is : wrong_from 1 (sum counts) pairs ≡ w
+    wrong_is = rw (← blocks) (sym w_is)
+
+    passes_large : first_of rows ≡ first_of (pairs_no counts pairs ∷ [])
     unfolding first_of
-    large l = rw (lt-ltb 4096 (total counts) l)
+    passes_large = rw (le-ltb 4096 (total counts) small)
 
-    pub fifteen_many : t ≡ 0 → (15, 0) ≡ first_of rows
-    fifteen_many z = large (omega (arith, zero_many counts t is z))
+    pub sixteen : (w ≡ 0 → ⊥) → (16, w) ≡ first_of rows
+    sixteen h = sym (passes_large ∙ ap (λ (w : ℕ). first_of (at_place 16 w ∷ [])) wrong_is ∙ at_place_lem 15 [] w h)
 
-    module _ (some : t ≡ 0 → ⊥) where
-      total_is : t ≡ total counts
-      total_is = is ∙ many_no_lem counts (some_few counts t is some)
-
-      pub fifteen : 4096 < t → (15, 0) ≡ first_of rows
-      fifteen l = large (omega (arith, total_is))
-
-      module _ (small : t ≤ 4096) (n : ℕ) (blocks : n ≡ sum counts) (w : ℕ) (w_is : w ≡ wrong_from 1 n pairs) where
-        wrong_is : wrong_from 1 (sum counts) pairs ≡ w
-        wrong_is = rw (← blocks) (sym w_is)
-
-        passes_large : first_of rows ≡ first_of (pairs_no counts pairs ∷ [])
-        unfolding first_of
-        passes_large = rw (le-ltb 4096 (total counts) (omega (arith, total_is)))
-
-        pub sixteen : (w ≡ 0 → ⊥) → (16, w) ≡ first_of rows
-        sixteen h = sym (passes_large ∙ ap (λ (w : ℕ). first_of (at_place 16 w ∷ [])) wrong_is ∙ at_place_lem 15 [] w h)
-
-        pub neither : w ≡ 0 → fine ≡ first_of rows
-        unfolding first_of
-        neither z = sym (passes_large ∙ rw (wrong_is, z))
+    pub neither : w ≡ 0 → fine ≡ first_of rows
+    unfolding first_of
+    neither z = sym (passes_large ∙ rw (wrong_is, z))
 
   -- ---- a list that passes both
 

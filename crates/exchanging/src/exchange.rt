@@ -8,9 +8,5 @@ pub fn exchange(strip: &mut [u8], low: u8, high: u8)
     requires { Places (length strip.old) low high }
     ensures { strip.new ≡ exchanged low high strip.old }
 {
-    let p = low as usize - 1;
-    let q = high as usize - 1;
-    let block = strip[p];
-    strip[p] = strip[q];
-    strip[q] = block;
+    strip.swap(low as usize - 1, high as usize - 1);
 }

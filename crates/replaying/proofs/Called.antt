@@ -1,19 +1,20 @@
 -- Proofs. Replay called with any stock, strip and pairs: refused by 1 to 6, by 15 or 16, or else what is told.
 use Prim.Native.Nat.{ℕ, ◌≤◌}
-use mathlib.Core.Path.{◌≡◌, sym, ap, ◌∙◌}
+use mathlib.Core.Path.{◌≡◌, ◌∙◌}
 use mathlib.Core.List.{List, [], ◌∷◌, ◌++◌}
+use Rattle.std.specs.Prelude.{Result, Ok}
+use Rattle.std.specs.Result.{IsErrAnd}
+use Rattle.std.proofs.lemmas.Result.{err_from_is_err_and}
 use Rattle.rules.specs.Stock.{sum, total, IsStock, IsStrip}
 use Rattle.rules.specs.Refusals.{No, fine, first_of, check_nos}
-use Rattle.rules.proofs.Refusals.{passed_both_back, unless_refused, unless_passed, answer_stopped, answer_passed}
 use Rattle.rules.proofs.Checks.{accepted_both}
-use Rattle.stock.specs.declared.Refusal.{Refusal}
-use Rattle.stock.specs.Refused.{refusal}
-use Rattle.stock.proofs.Tested.{passed, stopped, stopped_first, passed_next}
+use Rattle.stock.specs.declared.refused.Refused.{Refused}
+use Rattle.stock.specs.Refused.{no_of, answered}
+use Rattle.stock.proofs.Told.{passed, passed_next, stopped_first, passed_left, stopped_left, passed_answer, stopped_answer}
 use Rattle.bar.specs.Bar.{final_strip}
 use Rattle.bar.specs.Pairs.{large_no, pairs_no}
 use Rattle.bar.proofs.Pairs.{Right}
 use Rattle.bar.proofs.Refused.{rows_passed}
-use Rattle.replaying.specs.declared.replay.Replayed.{Replayed}
 use Rattle.replaying.specs.Answers.{replay_nos, as_replayed, told, replay_answer, replay_after}
 
 module _ (counts s pairs : List ℕ) where
@@ -21,36 +22,35 @@ module _ (counts s pairs : List ℕ) where
   list_nos = large_no counts ∷ pairs_no counts pairs ∷ []
 
   -- the answer and the strip are those of a replay
-  abbrev pub Answers : Replayed → List ℕ → Type 0
-  Answers r t = (r ≡ replay_answer counts s pairs) × (t ≡ replay_after counts s pairs)
+  abbrev pub Answers : Result (ℕ × ℕ × ℕ) Refused → List ℕ → Type 0
+  Answers r t = (answered as_replayed (0, 0, 0) r ≡ replay_answer counts s pairs) × (t ≡ replay_after counts s pairs)
 
-  refused_by : (r : Refusal) → r ≡ refusal (first_of (replay_nos counts s pairs)) → (r.no ≡ 0 → ⊥) → Answers (record { refusal = r; walked = 0; different = 0; missing = 0 }) s
+  refused_by : (e : Refused) → no_of e ≡ first_of (replay_nos counts s pairs) → (r : Result (ℕ × ℕ × ℕ) Refused) → IsErrAnd r (λ y. y ≡ e) → Answers r s
   unfolding replay_answer replay_after
-  refused_by r is h =
+  refused_by e is r h =
       let nos = replay_nos counts s pairs in
-      let k = stopped nos r is h in
-      (ap (λ (r : Refusal). record { refusal = r; walked = 0; different = 0; missing = 0 }) is ∙ answer_stopped as_replayed (0, 0, 0) (told counts s pairs) nos k, sym (unless_refused s (final_strip s pairs) (first_of nos) k))
+      let p = err_from_is_err_and r h in
+      rw (p.1, p.2) (stopped_answer nos (0, 0, 0) (told counts s pairs) as_replayed e is, stopped_left nos s (final_strip s pairs) e is)
 
-  module _ (c : Refusal) (is : c ≡ refusal (first_of (check_nos counts s))) where
-    pub refused_early : (c.no ≡ 0 → ⊥) → Answers (record { refusal = c; walked = 0; different = 0; missing = 0 }) s
+  pub refused_early : (e : Refused) → no_of e ≡ first_of (check_nos counts s) → (r : Result (ℕ × ℕ × ℕ) Refused) → IsErrAnd r (λ y. y ≡ e) → Answers r s
+  unfolding replay_nos
+  refused_early e is r h = refused_by e (stopped_first (check_nos counts s) e is list_nos) r h
+
+  module _ (good : fine ≡ first_of (check_nos counts s)) where
+    pub both : IsStock counts × IsStrip counts s
+    both = accepted_both counts s (passed (check_nos counts s) good)
+
+    pub refused_list : (e : Refused) → no_of e ≡ first_of list_nos → (r : Result (ℕ × ℕ × ℕ) Refused) → IsErrAnd r (λ y. y ≡ e) → Answers r s
     unfolding replay_nos
-    refused_early h = refused_by c (stopped_first (check_nos counts s) c is list_nos h) h
+    refused_list e is r h = refused_by e (passed_next (check_nos counts s) list_nos good (no_of e) is) r h
 
-    module _ (z : c.no ≡ 0) where
-      pub good : IsStock counts × IsStrip counts s
-      good = accepted_both counts s (passed (check_nos counts s) c is z)
+    module _ (listed : fine ≡ first_of list_nos) where
+      pub right : (total counts ≤ 4096) × Right (sum counts) pairs
+      right = rows_passed counts pairs (passed list_nos listed)
 
-      module _ (d : Refusal) (list_is : d ≡ refusal (first_of list_nos)) where
-        pub refused_list : (d.no ≡ 0 → ⊥) → Answers (record { refusal = d; walked = 0; different = 0; missing = 0 }) s
-        unfolding replay_nos
-        refused_list h = refused_by d (passed_next (check_nos counts s) c is list_nos z d list_is) h
-
-        module _ (y : d.no ≡ 0) where
-          pub right : (total counts ≤ 4096) × Right (sum counts) pairs
-          right = rows_passed counts pairs (passed list_nos d list_is y)
-
-          pub replayed : (r : Replayed) (t : List ℕ) → r ≡ as_replayed fine (told counts s pairs) → t ≡ final_strip s pairs → Answers r t
-          unfolding replay_nos replay_answer replay_after
-          replayed r t e f =
-              let none = passed_both_back (check_nos counts s) list_nos (passed (check_nos counts s) c is z) (passed list_nos d list_is y) in
-              (e ∙ answer_passed as_replayed (0, 0, 0) (told counts s pairs) (check_nos counts s ++ list_nos) none, f ∙ sym (unless_passed s (final_strip s pairs) (first_of (check_nos counts s ++ list_nos)) none))
+      pub replayed : (w : ℕ × ℕ × ℕ) (t : List ℕ) → w ≡ told counts s pairs → t ≡ final_strip s pairs → Answers (Ok w) t
+      unfolding replay_nos replay_answer replay_after
+      replayed w t e f =
+          let nos = check_nos counts s ++ list_nos in
+          let none : fine ≡ first_of nos = passed_next (check_nos counts s) list_nos good fine listed in
+          (rw e (passed_answer nos (0, 0, 0) (told counts s pairs) as_replayed none), f ∙ passed_left nos s (final_strip s pairs) none)

@@ -2,7 +2,7 @@
 ghost use Rattle.std.specs.Prelude.{◌≡◌, length};
 ghost use Rattle.rules.specs.Stock.{total};
 ghost use Rattle.rules.specs.Book.{book};
-ghost use Rattle.rules.specs.Refusals.{fine};
+ghost use Rattle.stock.specs.Refused.{answered};
 ghost use Rattle.counting.specs.Patterns.{ArePatterns};
 ghost use Rattle.bar.specs.Bar.{stood, final_strip, walked};
 ghost use Rattle.flags.specs.Flags.{Clear, Flagged};
@@ -14,7 +14,7 @@ use exchanging::check_pairs;
 use exchanging::exchange::exchange;
 use flags::{first_clear, how_many};
 use numbering::number_of;
-use stock::{Refusal, check_strip};
+use stock::{Refusal, Refused, check_strip};
 
 // What Replay answers.
 #[repr(C)]
@@ -40,13 +40,10 @@ fn exchange_all(
 {
     let start = number_of(patterns, stock, strip).number;
     flags[start as usize] = true;
-    let whole = pairs.len() / 2;
     let mut number = start;
     let mut walked: u64 = 0;
-    let mut k: usize = 0;
-    while k < whole {
+    for k in 0..pairs.len() / 2 {
         exchange(strip, pairs[2 * k], pairs[2 * k + 1]);
-        k += 1;
         let before = number;
         number = number_of(patterns, stock, strip).number;
         flags[number as usize] = true;
@@ -57,26 +54,22 @@ fn exchange_all(
     walked
 }
 
-// A replay that nothing refuses, with flags for the strips of the book, all clear.
+// A replay that nothing refuses, with flags for the strips of the book, all clear: how many exchanges were the walk's next move, how many different strips
+// stood, and the smallest number of one that never did.
 fn replay_with(
     patterns: &[u64; 16],
     stock: &[u16],
     strip: &mut [u8],
     pairs: &[u8],
     flags: &mut [bool],
-) -> Replayed
+) -> (u64, u64, u64)
     requires { ArePatterns stock.now patterns.now × Replayable stock.now strip.old pairs.now × (length flags.old ≡ total stock.now) × Clear flags.old }
-    ensures { (result ≡ as_replayed fine (told stock.now strip.old pairs.now)) × (strip.new ≡ final_strip strip.old pairs.now) }
+    ensures { (result ≡ told stock.now strip.old pairs.now) × (strip.new ≡ final_strip strip.old pairs.now) }
 {
     let walked = exchange_all(patterns, stock, strip, pairs, flags);
     let different = how_many(flags);
     let missing = first_clear(flags);
-    Replayed {
-        refusal: Refusal { no: 0, place: 0 },
-        walked,
-        different: different as u64,
-        missing: missing as u64,
-    }
+    (walked, different as u64, missing as u64)
 }
 
 // The same with 4,096 flags, of which the book of so many strips uses the first.
@@ -86,39 +79,43 @@ fn replay_checked(
     stock: &[u16],
     strip: &mut [u8],
     pairs: &[u8],
-) -> Replayed
+) -> (u64, u64, u64)
     requires { ArePatterns stock.now patterns.now × Replayable stock.now strip.old pairs.now × (strips ≡ total stock.now) }
-    ensures { (result ≡ as_replayed fine (told stock.now strip.old pairs.now)) × (strip.new ≡ final_strip strip.old pairs.now) }
+    ensures { (result ≡ told stock.now strip.old pairs.now) × (strip.new ≡ final_strip strip.old pairs.now) }
 {
     let mut flags = [false; 4096];
     replay_with(patterns, stock, strip, pairs, &mut flags[..strips])
 }
 
-// The lent strip becomes what the exchanges make of it. All pairs are looked at before the first exchange.
+// The same for any stock, strip and pairs. All pairs are looked at before the first exchange.
+fn replay_any(stock: &[u16], strip: &mut [u8], pairs: &[u8]) -> Result<(u64, u64, u64), Refused>
+    ensures { (answered as_replayed (0, 0, 0) result ≡ replay_answer stock.now strip.old pairs.now) × (strip.new ≡ replay_after stock.now strip.old pairs.now) }
+{
+    check_strip(stock, strip)?;
+    let patterns = patterns_of(stock);
+    let strips = total_of(&patterns, stock);
+    check_pairs(stock, strips, strip.len(), pairs)?;
+    let many = strips.unwrap() as usize;
+    let told = replay_checked(&patterns, many, stock, strip, pairs);
+    Ok(told)
+}
+
+// The lent strip becomes what the exchanges make of it.
 pub fn replay(stock: &[u16], strip: &mut [u8], pairs: &[u8]) -> Replayed
     ensures { (result ≡ replay_answer stock.now strip.old pairs.now) × (strip.new ≡ replay_after stock.now strip.old pairs.now) }
 {
-    let checked = check_strip(stock, strip);
-    let no = checked.no;
-    if no != 0 {
-        return Replayed {
-            refusal: checked,
+    match replay_any(stock, strip, pairs) {
+        Ok((walked, different, missing)) => Replayed {
+            refusal: Refusal::NONE,
+            walked,
+            different,
+            missing,
+        },
+        Err(refused) => Replayed {
+            refusal: refused.into(),
             walked: 0,
             different: 0,
             missing: 0,
-        };
+        },
     }
-    let patterns = patterns_of(stock);
-    let strips = total_of(&patterns, stock);
-    let listed = check_pairs(stock, strips, strip.len(), pairs);
-    let wrong = listed.no;
-    if wrong != 0 {
-        return Replayed {
-            refusal: listed,
-            walked: 0,
-            different: 0,
-            missing: 0,
-        };
-    }
-    replay_checked(&patterns, strips as usize, stock, strip, pairs)
 }

@@ -1,11 +1,6 @@
 -- `exchanging::pairs::wrong_pair` meets its contract.
-use Prim.Native.Nat.{◌-◌}
-use lib.ListN.{length}
 use Rattle.bar.proofs.Pairs.{Sought}
 use Rattle.exchanging.proofs.pairs.wrong_pair.Given as goal
 
 abbrev pub invariant-loop-k : goal.invariant-loop-k
 invariant-loop-k l = Sought l.n l.pairs l.k
-
-abbrev pub decreases-loop-k : goal.decreases-loop-k
-decreases-loop-k l = length l.pairs - l.k

@@ -3,6 +3,7 @@ use native.Mathlib.Omega.{arith}
 use Rattle.rules.proofs.Places.{place_below}
 use Rattle.replaying.proofs.Underway.{start, pair, next_own, next_in_room, on_walked, on_other, end_walked, end_strip, end_flagged}
 use Rattle.replaying.proofs.replay.exchange_all.Goals as goal
+use Rattle.replaying.proofs.replay.exchange_all.Goals.{then-number-before, else-number-before}
 
 pub number_of-start-requires : goal.number_of-start-requires
 number_of-start-requires c =
@@ -36,13 +37,13 @@ overflow_add-before c =
 pub overflow_add-walked : goal.overflow_add-walked
 overflow_add-walked c = omega (arith, c.loop-k.invariant.fewer)
 
-pub loop-k-preserved-then-number-before : goal.loop-k-preserved-then-number-before
-loop-k-preserved-then-number-before c =
-    on_walked _ c.requires.1.stock _ _ _ _ _ _ _ c.loop-k.invariant (omega arith) _ c.exchange.ensures _ c.number_of-number.ensures.0 (omega arith)
-
 pub loop-k-preserved : goal.loop-k-preserved
 loop-k-preserved c =
-    on_other _ c.requires.1.stock _ _ _ _ _ _ _ c.loop-k.invariant (omega arith) _ c.exchange.ensures _ c.number_of-number.ensures.0 (λ e. omega arith)
+    let u = c.loop-k.invariant in
+    elim c.if-number-before.branch [
+      | then-number-before w ↦ rw w.walked-is (on_walked _ c.requires.1.stock _ _ _ _ _ _ _ u (omega arith) _ c.exchange.ensures _ c.number_of-number.ensures.0 (omega arith))
+      | else-number-before w ↦ rw w.walked-is (on_other _ c.requires.1.stock _ _ _ _ _ _ _ u (omega arith) _ c.exchange.ensures _ c.number_of-number.ensures.0 (λ e. omega arith))
+    ]
 
 pub returns : goal.returns
 returns c =

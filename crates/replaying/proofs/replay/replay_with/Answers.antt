@@ -3,16 +3,14 @@ use Prim.Native.Nat.{ℕ}
 use mathlib.Core.Path.{◌≡◌, ◌∙◌}
 use mathlib.Core.List.{List}
 use Rattle.rules.specs.Book.{book}
-use Rattle.rules.specs.Refusals.{fine}
 use Rattle.bar.specs.Bar.{stood, walked, different, missing}
-use Rattle.replaying.specs.Answers.{as_replayed, told}
+use Rattle.replaying.specs.Answers.{told}
 use Rattle.flags.proofs.Flagging.{many_different, first_missing}
 use Rattle.replaying.proofs.replay.replay_with.Goals as goal
 
-answer_is : (counts s pairs : List ℕ) {w d m : ℕ} → w ≡ walked counts s pairs → d ≡ different (stood s pairs) (book counts) → m ≡ missing (stood s pairs) (book counts)
-    → as_replayed fine (w, d, m) ≡ as_replayed fine (told counts s pairs)
+told_is : (counts s pairs : List ℕ) {w d m : ℕ} → w ≡ walked counts s pairs → d ≡ different (stood s pairs) (book counts) → m ≡ missing (stood s pairs) (book counts) → (w, d, m) ≡ told counts s pairs
 unfolding told
-answer_is counts s pairs e f g = rw (e, f, g)
+told_is counts s pairs e f g = rw (e, f, g)
 
 pub returns : goal.returns
 returns c =
@@ -21,4 +19,4 @@ returns c =
     let l = stood b.strip.now b.pairs.now in
     let d = c.how_many-different.ensures ∙ many_different (book b.stock.now) l _ e.2 in
     let m = c.first_clear-missing.ensures ∙ first_missing (book b.stock.now) l _ e.2 in
-    (answer_is b.stock.now b.strip.now b.pairs.now e.0 d m, e.1)
+    (told_is b.stock.now b.strip.now b.pairs.now e.0 d m, e.1)
