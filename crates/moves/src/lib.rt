@@ -51,7 +51,7 @@ pub fn next(word: &[u8], kind: u8, others: usize) -> Option<Step>
     next(&word[..before], kind, rest - 1)
 }
 
-// Moving back: by the same three parts, from the last to the first.
+// Moving back: by the same three parts, from the last to the first. It is no `next` with a flag: other parts of the list have no seam, and other places change.
 #[cycle(next_prev)]
 #[tactic(auto, using(crate::proofs::Stepping::stepping))]
 pub fn prev(word: &[u8], kind: u8, others: usize) -> Option<Step>

@@ -13,6 +13,7 @@ pub fn walker_of(stock: &[u16], strip: &[u8]) -> Walker
     ensures { result ≡ walker_for stock.now strip.now }
 {
     let mut w = Walker::FORWARD;
+    // Fixed memory: a reduced strip has at most 64 blocks, and how many is what `reduce` answers.
     let mut word = [0; 64];
     let mut odd = false;
     let mut below = 0;
