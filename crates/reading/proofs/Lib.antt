@@ -1,7 +1,6 @@
 -- Proofs: nobody needs to read these to know what holds.
-mod ReadOn
-mod Joined
 mod Padding
+mod Whole
 mod Shape
 pub mod MoveRecords
 pub mod Right

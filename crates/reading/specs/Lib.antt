@@ -1,3 +1,2 @@
--- What reading a press sheet answers (to be believed), and what its second half promises.
+-- What reading a press sheet answers (to be believed).
 pub mod Reading
-pub mod Halves

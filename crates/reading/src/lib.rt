@@ -2,4 +2,3 @@
 #![tactic(auto)]
 
 pub mod reader;
-mod sheet_moves;
