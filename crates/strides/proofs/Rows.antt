@@ -17,8 +17,6 @@ use Rattle.rules.proofs.Places.{place_below}
 use Rattle.walking.specs.Answers.{along, left_along, left}
 use Rattle.walking.proofs.Along.{along_strip}
 use Rattle.std.specs.Prelude.{Result, Ok, Err, IsOk, IsErr}
-use Rattle.std.specs.Result.{IsErrAnd}
-use Rattle.std.proofs.lemmas.Result.{err_from_is_err_and}
 use Rattle.stock.specs.declared.refused.Reason.{Reason}
 use Rattle.stock.specs.declared.refused.Reason.TheVariants.{Many, Astray, Stride}
 use Rattle.stock.specs.Refused.{number_of}
@@ -119,9 +117,6 @@ module _ (counts s : List ℕ) (n : ℕ) where
   seen_within (Err r) v h = absurd (cc)
 
   -- ---- making it, as it is seen ahead
-
-  pub strode_not : (r : Result (Unit {0}) Reason) (e : Reason) → IsErrAnd r (λ y. y ≡ e) → Sees counts s n (Err e) → (t : List ℕ) → Strode counts s n r t
-  strode_not r e h v t = let p = err_from_is_err_and r h in rw (p.1, p.2) record { refusal = v.refusal; strip = tt }
 
   module _ (number : ℕ) (v : Sees counts s n (Ok number)) where
     seen : CanStride

@@ -38,10 +38,6 @@ module _ (counts s rest₀ t : List ℕ) (w : Walker) (rest : List ℕ) (i : ℕ
         filled = rw (add-one i, shown false counts s t w i k h v.walked r u is) (rw next at filled);
       }
 
-  -- all of them
-  pub end : (c : ℕ) → i ≡ c → rest ≡ move_records counts s c ++ drop (3 * c) rest₀
-  end c e = rw e at v.filled.put
-
 -- the records of a strip that is the same
 pub of_same : (counts s t z ys : List ℕ) (c : ℕ) → t ≡ s → ys ≡ move_records counts t c ++ z → ys ≡ move_records counts s c ++ z
 of_same counts s t z ys c e f = rw e at f

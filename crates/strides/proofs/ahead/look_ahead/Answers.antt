@@ -19,9 +19,6 @@ returns-then-moves-lt2 c = sees_short _ _ _ (omega arith)
 pub returns-in_default : goal.returns-in_default
 returns-in_default c = sees_many _ _ _ (omega arith) (many _ c.in_default.ensures)
 
-pub number_of-here-requires : goal.number_of-here-requires
-number_of-here-requires c = (c.patterns_of-patterns.ensures, c.requires.0, c.requires.1, (held (goal.at.number_of-here-requires c).In-Some).0)
-
 pub overflow_sub-strips : goal.overflow_sub-strips
 overflow_sub-strips c = omega (arith, (held (goal.at.overflow_sub-strips c).In-Some).1, c.number_of-here.ensures.0, place_below c.args.stock.now c.args.strip.now c.requires.1)
 

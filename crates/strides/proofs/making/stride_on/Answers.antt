@@ -1,11 +1,8 @@
 -- `strides::making::stride_on` meets its contract: refused as it is seen ahead, or the strip by its number.
 use Rattle.rules.proofs.Strips.{strip_sum}
 use Rattle.numbering.proofs.Theorems.{strip_is_right}
-use Rattle.strides.proofs.Rows.{strode_not, seen_few, seen_below, strode}
+use Rattle.strides.proofs.Rows.{seen_few, seen_below, strode}
 use Rattle.strides.proofs.making.stride_on.Goals as goal
-
-pub returns-in_err-number : goal.returns-in_err-number
-returns-in_err-number c = strode_not _ _ _ _ _ c.from_residual.ensures.1 c.in_err-number.ensures _
 
 pub returns : goal.returns
 returns c =

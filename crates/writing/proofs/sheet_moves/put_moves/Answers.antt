@@ -1,16 +1,9 @@
 -- `writing::sheet_moves::put_moves` meets its contract. The invariant: the walk has made so many moves, and their records stand at the front of the rest.
-use mathlib.Core.Path.{◌≡◌}
 use mathlib.Core.Bool.{false}
 use native.Mathlib.Omega.{arith}
-use lib.ListN.{length}
 use Rattle.walking.proofs.Walked.{checked, allowed}
-use Rattle.sheets.proofs.Rest.{same_long}
-use Rattle.writing.proofs.Listing.{start, on, end}
+use Rattle.writing.proofs.Listing.{start, on}
 use Rattle.writing.proofs.sheet_moves.put_moves.Goals as goal
-use Rattle.writing.proofs.sheet_moves.put_moves.Goals.{At-loop-listed}
-
-rest_kept : (c : At-loop-listed) → length c.loop-listed.rest ≡ length c.args.rest.now
-rest_kept c = same_long _ _ _ _ c.loop-listed.invariant.filled
 
 pub loop-listed-init : goal.loop-listed-init
 loop-listed-init c = start _ _ _ _ c.requires.0
@@ -27,6 +20,3 @@ loop-listed-preserved c =
     let m = c.put_move in
     let p = c.requires.0 in
     on _ _ _ _ _ _ _ c.loop-listed.invariant p.stock p.strip _ _ c.in-Some.ensures (omega (arith, c.requires.2)) _ m.auto.rest m.ensures
-
-pub returns : goal.returns
-returns c = end _ _ _ _ _ _ _ c.loop-listed.invariant _ (omega arith)

@@ -17,6 +17,3 @@ returns-in_default c =
 
 pub loop-moves-preserved : goal.loop-moves-preserved
 loop-moves-preserved c = on false _ _ _ _ _ c.requires.stock c.requires.strip c.loop-moves.invariant _ _ c.in-Some.ensures
-
-pub returns : goal.returns
-returns c = omega (arith, c.loop-moves.invariant.made)
