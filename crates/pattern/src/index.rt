@@ -58,11 +58,15 @@ pub fn index_of(patterns: u64, word: &[u8], kind: u8, others: usize) -> Indexed
         turned: false,
     };
     let mut cuts: u32 = 0;
-    while let [but_two @ .., before, last] = left {
+    while b < left.len() {
         let a = left.len();
-        if b == 0 || b == a {
+        if b == 0 {
             break;
         }
+        // Letters of both sorts are left, so two at least.
+        let [but_two @ .., before, last] = left else {
+            break;
+        };
         cuts += 1;
         if *last == kind {
             part = part.narrowed(0, ends_in_k(part.all, a, b));

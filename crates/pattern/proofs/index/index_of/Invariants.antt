@@ -3,8 +3,8 @@ use lib.ListN.{length}
 use Rattle.pattern.proofs.Narrowing.{Narrowed}
 use Rattle.pattern.proofs.index.index_of.Given as goal
 
-abbrev pub invariant-loop-left : goal.invariant-loop-left
-invariant-loop-left l = Narrowed l.kind l.word l.others l.left l.b l.part l.cuts
+abbrev pub invariant-loop-b : goal.invariant-loop-b
+invariant-loop-b l = Narrowed l.kind l.word l.others l.left l.b l.part l.cuts
 
-abbrev pub decreases-loop-left : goal.decreases-loop-left
-decreases-loop-left l = length l.left
+abbrev pub decreases-loop-b : goal.decreases-loop-b
+decreases-loop-b l = length l.left
