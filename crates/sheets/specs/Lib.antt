@@ -1,4 +1,3 @@
--- What a press sheet is, and what writing one answers (to be believed), and the number of a record's kind.
-pub mod Kinds
+-- TO BE BELIEVED: what a press sheet is, and what writing one answers.
 pub mod Sheets
 pub mod Writing

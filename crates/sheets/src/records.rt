@@ -1,18 +1,17 @@
 // The records of a sheet. Each is written at the front of the rest of a sheet, and the bytes behind it stay.
 ghost use Rattle.std.specs.Prelude.{suc, ◌≤◌, ◌<◌, ◌≡◌, ◌∷◌, ◌++◌, length, drop};
 ghost use Rattle.rules.specs.Stock.{IsStock};
-ghost use Rattle.sheets.specs.Kinds.{number_of_kind};
 ghost use Rattle.sheets.specs.Sheets.{stock_record, strip_record, end_record};
 
 use crate::Record;
 use copying::{copied, copy};
 
-// A record: one byte of kind, then the body.
-pub fn put_record(rest: &mut [u8], kind: Record, body: &[u8])
+// A record: one byte of kind, then the body. Any byte was always taken for a kind here, and a caller is asked no more than that.
+pub fn put_record(rest: &mut [u8], kind: u8, body: &[u8])
     requires { length body.now < length rest.old }
-    ensures { rest.new ≡ (number_of_kind kind ∷ body.now) ++ drop (suc (length body.now)) rest.old }
+    ensures { rest.new ≡ (kind ∷ body.now) ++ drop (suc (length body.now)) rest.old }
 {
-    rest[0] = kind as u8;
+    rest[0] = kind;
     copy(body, &mut rest[1..]);
 }
 
@@ -25,7 +24,7 @@ pub fn put_stock(rest: &mut [u8], stock: &[u16])
     for (i, count) in stock.iter().enumerate() {
         body[i] = *count as u8;
     }
-    put_record(rest, Record::Stock, &body);
+    put_record(rest, Record::Stock as u8, &body);
 }
 
 // The strip: 64 bytes, zero after its last place.
@@ -33,7 +32,7 @@ pub fn put_strip(rest: &mut [u8], strip: &[u8])
     requires { (length strip.now ≤ 64) × (65 ≤ length rest.old) }
     ensures { rest.new ≡ strip_record strip.now ++ drop 65 rest.old }
 {
-    put_record(rest, Record::Strip, &copied(strip));
+    put_record(rest, Record::Strip as u8, &copied(strip));
 }
 
 // The two records before the moves.
@@ -50,7 +49,7 @@ pub fn put_move(rest: &mut [u8], low: u8, high: u8)
     requires { 3 ≤ length rest.old }
     ensures { rest.new ≡ 3 ∷ low ∷ high ∷ drop 3 rest.old }
 {
-    put_record(rest, Record::Move, &[low, high]);
+    put_record(rest, Record::Move as u8, &[low, high]);
 }
 
 // The end: no body.
@@ -58,5 +57,5 @@ pub fn put_end(rest: &mut [u8])
     requires { 1 ≤ length rest.old }
     ensures { rest.new ≡ end_record ++ drop 1 rest.old }
 {
-    put_record(rest, Record::End, &[]);
+    put_record(rest, Record::End as u8, &[]);
 }

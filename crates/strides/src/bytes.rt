@@ -20,5 +20,5 @@ pub fn put_stride(rest: &mut [u8], moves: u64)
     requires { 9 ≤ length rest.old }
     ensures { rest.new ≡ stride_record moves ++ drop 9 rest.old }
 {
-    put_record(rest, Record::Stride, &moves.to_be_bytes());
+    put_record(rest, Record::Stride as u8, &moves.to_be_bytes());
 }
