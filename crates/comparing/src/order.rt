@@ -24,6 +24,7 @@ pub fn compare(stock: &[u16], first: &[u8], second: &[u8]) -> Option<Parting>
     requires { IsStock stock.now × IsStrip stock.now first.now × IsStrip stock.now second.now }
     ensures { (which_number result ≡ which_of (place_in (book stock.now) first.now) (place_in (book stock.now) second.now)) × (kind_number result ≡ parting_kind stock.now first.now second.now) }
 {
+    // No heap: the words stand in arrays, and `reduce` answers how long they are.
     let mut one = [0; 64];
     let mut two = [0; 64];
     let mut odd = false;

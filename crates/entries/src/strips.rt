@@ -51,6 +51,7 @@ pub fn strip_at(stock: &[u16], strips: u64, number: u64, strip: &mut [u8])
     let mut left = counts_of(stock);
     let mut ways = strips;
     let mut rest = number;
+    // How many blocks are left, of which each kind has its share.
     let mut n = strip.len() as u64;
     for place in strip.iter_mut() {
         let choice = choose_kind(&left[..stock.len()], n, ways, rest);

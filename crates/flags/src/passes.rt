@@ -9,7 +9,8 @@ pub fn how_many(flags: &[bool]) -> usize
     flags.iter().filter(|set| **set).count()
 }
 
-// The first number whose flag is clear; how many flags there are where none is. Both are told by the flags that are set ahead of it.
+// The first number whose flag is clear; how many flags there are where none is. Both are told by the flags that are set ahead of
+// it, and the number is the one that Replay gives to C.
 pub fn first_clear(flags: &[bool]) -> usize
     ensures { result ≡ first_clear_place flags.now }
 {

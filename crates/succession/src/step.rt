@@ -5,7 +5,8 @@ ghost use Rattle.succession.specs.Steps.{Advanced};
 
 use crate::ends::{last_above, last_rise};
 
-// The strip becomes the entry after it in the dictionary of its stock, and true; or it is the last, stays, and false. The stock is not looked at.
+// The strip becomes the entry after it in the dictionary of its stock, and true; or it is the last, stays, and false, which is all that there is to answer. The
+// stock is not looked at.
 pub fn next_entry(strip: &mut [u8]) -> bool
     requires { 0 < length strip.old }
     ensures { (counts : List ℕ) → IsStrip counts strip.old → Advanced counts strip.old result strip.new }
