@@ -16,12 +16,6 @@ module _ {a b i all index times : ℕ} (e : Enlarged a b i all index times) wher
   pub quotient : index / times ≡ i
   quotient = rw e.index_is (mul-div_cancel i {n = times} e.some)
 
-  pub patterns_are : all / times ≡ binom a b
-  patterns_are = rw e.all_is (mul-div_cancel (binom a b) {n = times} e.some)
-
-  pub divided : Enlarged a b i (all / times) (index / times) 1
-  divided = record { some = omega arith; within = e.within; all_is = patterns_are ∙ sym (mul-one (binom a b)); index_is = quotient ∙ sym (mul-one i) }
-
 -- as they are
 pub plain : (a b i all : ℕ) → all ≡ binom a b → i < all → Enlarged a b i all i 1
 plain a b i all is h = record { some = omega arith; within = rw is at h; all_is = is ∙ sym (mul-one (binom a b)); index_is = sym (mul-one i) }
