@@ -10,7 +10,8 @@ use walking::finding::find;
 use walking::stepping::make;
 
 // Moves a checked strip and its walker on to the next one with no two of a kind touching, within the given moves. Where none is found both are left
-// anywhere: the caller lends copies.
+// anywhere: the caller lends copies. The search of `endless` is a loop of its own: here a move is found before it is made, and a walker and the place seen
+// are kept from move to move, so that one loop over both by a trait for such steps, with its list and its laws, would be no plainer than the two.
 pub fn seek(
     stock: &[u16],
     strip: &mut [u8],
