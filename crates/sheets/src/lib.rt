@@ -7,7 +7,6 @@ ghost use Rattle.sheets.specs.Writing.{as_written};
 
 pub mod records;
 
-pub use stock::Reason;
 use stock::{Refusal, Refused};
 
 // What a record of a sheet is. Its first byte is the number of its kind.

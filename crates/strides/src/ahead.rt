@@ -4,7 +4,7 @@ ghost use Rattle.strides.specs.Strode.{Sees};
 
 use counting::{patterns_of, total_of};
 use numbering::number_of;
-use sheets::Reason;
+use stock::Reason;
 
 // Looks so many moves ahead of a strip, for the number of the strip that a stride leads to: 17 for a number below 2, then 7, then 12 if that passes
 // the last strip.

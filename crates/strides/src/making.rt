@@ -4,7 +4,7 @@ ghost use Rattle.strides.specs.Strode.{Strode};
 
 use crate::ahead::look_ahead;
 use numbering::strip::strip;
-use sheets::Reason;
+use stock::Reason;
 
 // Makes so many moves on from a lent strip at once, by its number.
 pub fn stride_on(stock: &[u16], lent: &mut [u8], moves: u64) -> Result<(), Reason>
