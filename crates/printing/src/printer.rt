@@ -1,30 +1,30 @@
-// The printer: a state by value, with a step that gives the bytes of the next line. The flag `papers` says whether the papers of a stock are printed, or its
-// book.
-ghost use Rattle.std.specs.Prelude.{◌≤◌, ◌≡◌, length};
+// The printer: a state by value, with a step that gives the bytes of the next line. The listing says whether the papers of a stock are printed, or its book.
+ghost use Rattle.std.specs.Prelude.{◌≤◌, ◌≡◌, length, Some};
 ghost use Rattle.std.proofs.Math.Option.{some};
 ghost use Rattle.rules.specs.Refusals.{first_of};
-ghost use Rattle.stock.specs.Refused.{refusal};
+ghost use Rattle.stock.specs.Refused.{told};
 ghost use Rattle.counts.specs.Reading.{counts_read};
 ghost use Rattle.lines.specs.Puts.{Puts};
 ghost use Rattle.printed.specs.Output.{nos_of, stock_lines, output};
-ghost use Rattle.showing.specs.States.{shown_text, Fits};
+ghost use Rattle.showing.specs.States.{of_papers, shown_text, Fits};
 ghost use Rattle.printing.specs.States.{Sound, shown_first, printer_of, after, rest, Begins, Prints};
 
-use counting::count::count;
-use counts::{LineRead, read_line};
+use counting::{patterns_of, total_of};
+use counts::{Counts, read_line};
 use lines::writing::{put_refusal, put_strip, put_unreadable};
-use showing::{Shown, show_first, show_next, show_none};
-use stock::{Refusal, check_stock};
+pub use showing::Listing;
+use showing::{Shown, show_first, show_next};
+use stock::{Reason, Refused, blocks, check_stock};
 
-// What was read, whether it is the papers that are printed, and the strip that is shown.
+// What was read, if it can be, what is printed of it, and the strip that is shown, if one is.
 #[derive(Clone, Copy)]
 pub struct Printer {
-    pub read: LineRead,
-    pub papers: bool,
-    pub shown: Shown,
+    pub read: Option<Counts>,
+    pub listing: Listing,
+    pub shown: Option<Shown>,
 }
 
-// How many bytes of the lent line are the next line, and the printer after it. No bytes: nothing is left to print.
+// How many bytes of the lent line are the line that is printed, and the printer after it.
 #[derive(Clone, Copy)]
 pub struct Printed {
     pub length: usize,
@@ -35,96 +35,84 @@ pub struct Printed {
 #[derive(Clone, Copy)]
 pub struct Begun {
     pub length: usize,
-    pub shown: Shown,
+    pub shown: Option<Shown>,
 }
 
-// The line of the strip that is shown; nothing where there is none.
-fn put_shown(shown: Shown, line: &mut [u8]) -> usize
-    requires { Fits shown × (200 ≤ length line.old) }
-    ensures { Puts line.old 0 (shown_text shown) line.new result }
+// The line of the strip that is shown.
+fn put_shown(stock: &[u16], shown: Shown, line: &mut [u8]) -> usize
+    requires { Fits stock.now shown × (200 ≤ length line.old) }
+    ensures { Puts line.old 0 (shown_text stock.now shown) line.new result }
 {
-    let n = shown.blocks;
-    if n == 0 {
-        return 0;
-    }
-    let strip = shown.strip;
-    put_strip(line, shown.number, &strip[..n])
+    put_strip(line, shown.number, &shown.strip[..blocks(stock)])
 }
 
-// The refusal of a stock. Of its papers also 7, since a number in the dictionary is then none.
-fn refusal_of(stock: &[u16], papers: bool) -> Refusal
-    ensures { result ≡ refusal (first_of (nos_of papers stock.now)) }
+// Checks a stock. For its papers it is refused by 7 too, since a number in the dictionary is then none.
+fn check(stock: &[u16], listing: Listing) -> Result<(), Refused>
+    ensures { told result ≡ first_of (nos_of (of_papers listing) stock.now) }
 {
-    if papers {
-        let counted = count(stock);
-        return counted.refusal;
+    check_stock(stock)?;
+    match listing {
+        Listing::Book => Ok(()),
+        Listing::Papers => match total_of(&patterns_of(stock), stock) {
+            Some(_) => Ok(()),
+            None => Err(Reason::Many.at(0)),
+        },
     }
-    check_stock(stock)
 }
 
 // The first line of a stock.
-fn begin(stock: &[u16], papers: bool, line: &mut [u8]) -> Begun
+fn begin(stock: &[u16], listing: Listing, line: &mut [u8]) -> Begun
     requires { 200 ≤ length line.old }
-    ensures { Begins (stock_lines papers stock.now) (shown_first papers (some stock.now)) line.old line.new result }
+    ensures { Begins (stock_lines (of_papers listing) stock.now) (shown_first (of_papers listing) (some stock.now)) line.old line.new result }
 {
-    let refusal = refusal_of(stock, papers);
-    let no = refusal.no;
-    if no != 0 {
-        let length = put_refusal(line, refusal);
-        let shown = show_none();
-        return Begun { length, shown };
+    if let Err(refused) = check(stock, listing) {
+        return Begun {
+            length: put_refusal(line, refused),
+            shown: None,
+        };
     }
     let shown = show_first(stock);
-    let length = put_shown(shown, line);
-    Begun { length, shown }
+    Begun {
+        length: put_shown(stock, shown, line),
+        shown: Some(shown),
+    }
 }
 
 // The first line of an input.
-pub fn first_line(input: &[u8], papers: bool, line: &mut [u8]) -> Printed
+pub fn first_line(input: &[u8], listing: Listing, line: &mut [u8]) -> Printed
     requires { 200 ≤ length line.old }
-    ensures { Prints (output papers input.now) (printer_of papers (counts_read input.now)) line.old line.new result }
+    ensures { Prints (output (of_papers listing) input.now) (printer_of listing (counts_read input.now)) line.old line.new (Some result) }
 {
     let read = read_line(input);
-    if !read.readable {
-        let length = put_unreadable(line);
-        let shown = show_none();
-        let printer = Printer {
-            read,
-            papers,
-            shown,
-        };
-        return Printed { length, printer };
-    }
-    let kinds = read.kinds;
-    let counts = read.counts;
-    let begun = begin(&counts[..kinds], papers, line);
-    let shown = begun.shown;
-    let printer = Printer {
-        read,
-        papers,
-        shown,
+    let begun = match &read {
+        Some(counts) => begin(counts.as_slice(), listing, line),
+        None => Begun {
+            length: put_unreadable(line),
+            shown: None,
+        },
     };
     Printed {
         length: begun.length,
-        printer,
+        printer: Printer {
+            read,
+            listing,
+            shown: begun.shown,
+        },
     }
 }
 
 // The next line, if one is left.
-pub fn next_line(printer: Printer, line: &mut [u8]) -> Printed
+pub fn next_line(printer: Printer, line: &mut [u8]) -> Option<Printed>
     requires { Sound printer × (200 ≤ length line.old) }
     ensures { Prints (rest printer) (after printer) line.old line.new result }
 {
-    let read = printer.read;
-    let papers = printer.papers;
-    let kinds = read.kinds;
-    let counts = read.counts;
-    let shown = show_next(&counts[..kinds], papers, printer.shown);
-    let length = put_shown(shown, line);
+    let counts = printer.read?;
+    let stock = counts.as_slice();
+    let shown = show_next(stock, printer.listing, printer.shown)?;
+    let length = put_shown(stock, shown, line);
     let printer = Printer {
-        read,
-        papers,
-        shown,
+        shown: Some(shown),
+        ..printer
     };
-    Printed { length, printer }
+    Some(Printed { length, printer })
 }

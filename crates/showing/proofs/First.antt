@@ -8,16 +8,14 @@ use lib.ListN.{length, get_or, take, drop, replicate}
 use lib.Seq.{length-take-le, take_at}
 use Rattle.rules.specs.Stock.{sum, IsStock, IsStrip}
 use Rattle.rules.specs.Book.{book, place_in}
-use Rattle.rules.specs.Refusals.{first_of, check_nos}
 use Rattle.rules.proofs.Refusals.{unless_passed}
-use Rattle.rules.proofs.Checks.{accepted_buffer_back, accepted_both_back}
+use Rattle.rules.proofs.Checks.{accepted_buffer_back}
 use Rattle.rules.proofs.Strips.{strip_sum}
 use Rattle.rules.proofs.Prefixes.{total_some}
 use Rattle.rules.proofs.Places.{book_only}
 use Rattle.counting.specs.Answers.{first_after}
-use Rattle.walker.specs.Walkers.{walker_for, all_forward}
-use Rattle.walker.specs.declared.open.Opened.{Opened}
-use Rattle.walker.specs.Answers.{open_answer}
+use Rattle.walker.specs.Walkers.{walker_for}
+use Rattle.walker.specs.declared.Walker.{Walker}
 use Rattle.showing.specs.declared.Shown.{Shown}
 use Rattle.printed.specs.Output.{list_of}
 use Rattle.showing.specs.States.{walker_at, shown_at}
@@ -59,11 +57,11 @@ module _ (counts : List ℕ) (k : IsStock counts) (n : ℕ) (is : n ≡ sum coun
     pub part_0 : take n strip ≡ s
     part_0 = take_at s _ n (sym length_0)
 
-    pub first_shown : (o : Opened) → o ≡ open_answer counts (take n strip)
-        → (papers : Bool) → ◌≡◌ {A = Shown} record { strip = strip; blocks = n; number = 0; index = 0; walker = o.walker } (shown_at papers counts 0)
-    unfolding open_answer
-    first_shown o e papers =
-        let w : o.walker ≡ walker_for counts s =
-        ap (λ (x : Opened). x.walker) e ∙ rw part_0 (unless_passed all_forward (walker_for counts s) (first_of (check_nos counts s)) (accepted_both_back counts s k own_0)) in
-        shown_is papers counts s (drop n (replicate 64 0)) n 0 0 o.walker (strip_0 ∙ sym (first_strip counts papers k)) length_0 (drop_zeros n 64)
-        (sym (ap (place_in (list_of papers counts)) strip_0 ∙ first_number counts papers)) (w ∙ ap (walker_for counts) strip_0 ∙ sym (walker_0 papers counts k))
+    pub own_part : IsStrip counts (take n strip)
+    own_part = rw part_0 own_0
+
+    pub first_shown : (w : Walker) → w ≡ walker_for counts (take n strip)
+        → (papers : Bool) → ◌≡◌ {A = Shown} record { strip = strip; number = 0; index = 0; walker = w } (shown_at papers counts 0)
+    first_shown w e papers =
+        shown_is papers counts s (drop n (replicate 64 0)) 0 0 w (strip_0 ∙ sym (first_strip counts papers k)) (drop_zeros n 64 ∙ ap (λ (m : ℕ). replicate (64 - m) 0) length_0)
+        (sym (ap (place_in (list_of papers counts)) strip_0 ∙ first_number counts papers)) (e ∙ ap (walker_for counts) (part_0 ∙ strip_0) ∙ sym (walker_0 papers counts k))

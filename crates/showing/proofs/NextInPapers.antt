@@ -4,7 +4,9 @@ use mathlib.Core.Path.{◌≡◌, sym, ap, ◌∙◌}
 use mathlib.Core.Bool.{true}
 use mathlib.Core.List.{List, [], ◌++◌}
 use native.Mathlib.Omega.{arith}
-use lib.ListN.{get_or, take, drop}
+use lib.ListN.{get_or, drop}
+use Rattle.std.specs.Prelude.{Some, None}
+use Rattle.rules.specs.Stock.{sum}
 use Rattle.rules.specs.Book.{place_in}
 use Rattle.rules.specs.Refusals.{first_of, check_nos}
 use Rattle.rules.proofs.Refusals.{unless_passed}
@@ -17,13 +19,13 @@ use Rattle.endless.specs.declared.next_paper.Stepped.{Stepped}
 use Rattle.endless.specs.Answers.{paper_outcome, paper_steps, paper_after, next_paper_answer, next_paper_after}
 use Rattle.showing.specs.declared.Shown.{Shown}
 use Rattle.printed.specs.Output.{strips}
-use Rattle.showing.specs.States.{walker_at, nowhere, next_shown, Held}
+use Rattle.showing.specs.States.{walker_at, next_shown, blocks_shown, Held}
 use Rattle.printed.proofs.PaperStrips.{Next, paper_near, paper_own, last_paper, next_paper_lem}
-use Rattle.showing.proofs.Showing.{number_is, walker_is, some_shown, strip_is, next_last, shown_next}
+use Rattle.showing.proofs.Showing.{number_is, walker_is, strip_is, next_last, shown_next}
 
 module _ (counts : List ℕ) (sh : Shown) (st : Held true counts sh) where
   abbrev t : List ℕ
-  t = take sh.blocks sh.strip
+  t = blocks_shown counts sh
 
   abbrev s : List ℕ
   s = get_or (strips true counts) sh.index []
@@ -64,9 +66,9 @@ module _ (counts : List ℕ) (sh : Shown) (st : Held true counts sh) where
       steps_few = omega (arith, steps_are, few_steps stands_for_paper (later (dictionary counts) s) given)
 
       -- nothing is found: it is the last strip
-      pub none_found : (r.outcome ≡ 1 → ⊥) → next_shown true counts sh ≡ nowhere
+      pub none_found : (r.outcome ≡ 1 → ⊥) → next_shown true counts (Some sh) ≡ None
       none_found n =
-          next_last true counts sh (some_shown true counts st.stock sh.index st.within sh st.is)
+          next_last true counts sh
           (last_paper counts sh.index st.within given as_many (λ e. n (outcome_is ∙ e)))
 
       module _ (u : List ℕ) (left : u ≡ next_paper_after counts t given) where
@@ -77,7 +79,7 @@ module _ (counts : List ℕ) (sh : Shown) (st : Held true counts sh) where
             ∙ ap (λ (x : List ℕ). found_or stands_for_paper (later (dictionary counts) x) given x) same_strip
 
         pub found : r.outcome ≡ 1 → sh.index < 4095
-            → ◌≡◌ {A = Shown} record { strip = u ++ drop sh.blocks sh.strip; blocks = sh.blocks; number = sh.number + r.steps; index = sh.index + 1; walker = sh.walker } (next_shown true counts sh)
+            → Some (record { strip = u ++ drop (sum counts) sh.strip; number = sh.number + r.steps; index = sh.index + 1; walker = sh.walker }) ≡ next_shown true counts (Some sh)
         unfolding walker_at
         found o few =
             let n : Next counts sh.index (place_in (dictionary counts) s) u r.steps = rw (found_is, steps_are) (next_paper_lem counts sh.index st.within given as_many (omega arith) (sym outcome_is ∙ o)) in

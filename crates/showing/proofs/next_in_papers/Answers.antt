@@ -1,33 +1,32 @@
 -- `showing::next_in_papers` meets its contract.
-use mathlib.Core.Path.{sym, ◌∙◌}
-use mathlib.Core.Bool.{true}
-use mathlib.Core.Logic.{inr}
+use mathlib.Core.Path.{◌≡◌, sym}
 use native.Mathlib.Omega.{arith}
-use lib.Seq.{length-take-le}
-use Rattle.showing.proofs.Showing.{inside_shown}
+use Rattle.rules.specs.Stock.{sum}
 use Rattle.showing.proofs.NextInPapers.{small, steps_few, none_found, found}
 use Rattle.showing.proofs.next_in_papers.Goals as goal
+use Rattle.showing.proofs.next_in_papers.Goals.{After-blocks-n}
 
-pub returns-then-outcome-ne1 : goal.returns-then-outcome-ne1
-returns-then-outcome-ne1 c =
+n_is : (c : After-blocks-n) → c.blocks-n.result ≡ sum c.args.stock.now
+n_is c = omega (arith, c.blocks-n.ensures, c.requires.0.stock.short)
+
+pub returns-then-stepped-ne1 : goal.returns-then-stepped-ne1
+returns-then-stepped-ne1 c =
     let h = c.requires.0 in
-    c.show_none.ensures ∙ sym (none_found _ _ h _ (omega (arith, small _ _ h)) c.next_paper-stepped.result c.next_paper-stepped.ensures.0 (omega arith))
+    let p = rw (n_is (goal.at.returns-then-stepped-ne1 c).After-blocks-n) at c.next_paper-stepped.ensures in
+    sym (none_found _ _ h _ (omega (arith, small _ _ h)) c.next_paper-stepped.result p.0 (omega arith))
 
 pub overflow_add-result : goal.overflow_add-result
 overflow_add-result c =
     let h = c.requires.0 in
-    omega (arith, steps_few _ _ h _ (omega (arith, small _ _ h)) c.next_paper-stepped.result c.next_paper-stepped.ensures.0)
+    let p = rw (n_is (goal.at.overflow_add-result c).After-blocks-n) at c.next_paper-stepped.ensures in
+    omega (arith, steps_few _ _ h _ (omega (arith, small _ _ h)) c.next_paper-stepped.result p.0)
 
 pub returns : goal.returns
 returns c =
     let h = c.requires.0 in
-    found _ _ h _ (omega (arith, small _ _ h)) c.next_paper-stepped.result c.next_paper-stepped.ensures.0 _ c.next_paper-stepped.ensures.1 (omega arith) c.requires.1
+    let e = n_is (goal.at.returns c).After-blocks-n in
+    let p = rw e at c.next_paper-stepped.ensures in
+    rw e (found _ _ h _ (omega (arith, small _ _ h)) c.next_paper-stepped.result p.0 _ p.1 (omega arith) c.requires.1)
 
 pub overflow_sub-given : goal.overflow_sub-given
 overflow_sub-given c = omega (arith, small _ _ c.requires.0)
-
-pub slice_bounds-strip-end : goal.slice_bounds-strip-end
-slice_bounds-strip-end c = inside_shown true _ _ (inr c.requires.0)
-
-pub slice_bounds-next_paper-end : goal.slice_bounds-next_paper-end
-slice_bounds-next_paper-end c = sym (length-take-le _ _ (inside_shown true _ _ (inr c.requires.0)))

@@ -2,32 +2,45 @@
 use mathlib.Core.Path.{ap}
 use native.Mathlib.Omega.{arith}
 use Rattle.rules.specs.Stock.{IsStock}
-use Rattle.stock.specs.declared.Refusal.{Refusal}
-use Rattle.stock.proofs.Tested.{passed}
+use Rattle.rules.specs.Refusals.{No}
+use Rattle.stock.specs.Refused.{no_of}
+use Rattle.stock.proofs.Told.{passed, stopped}
 use Rattle.lines.proofs.Lengths.{refused_length}
 use Rattle.printed.specs.Output.{nos_of}
+use Rattle.showing.specs.States.{of_papers}
 use Rattle.printing.proofs.Refused.{refused_place, none_refused}
 use Rattle.printed.proofs.Lines.{some_strip}
 use Rattle.showing.proofs.Showing.{fits_at}
 use Rattle.printing.proofs.Answering.{begun_refused, begun_shown}
 use Rattle.printing.proofs.printer.begin.Goals as goal
+use Rattle.printing.proofs.printer.begin.Goals.{In_default}
 
-pub put_refusal-length-requires : goal.put_refusal-length-requires
-put_refusal-length-requires c =
-    let r = c.refusal_of-refusal.result in
-    (omega (arith, ap (λ (x : Refusal). x.place) c.refusal_of-refusal.ensures, refused_place c.args.papers c.args.stock.now), omega (arith, refused_length (r.no, r.place), c.requires))
+pub put_refusal-requires : goal.put_refusal-requires
+put_refusal-requires c =
+    let r = c.in-Err.refused in (
+      omega (arith, ap (λ (n : No). n.1) c.in-Err.ensures, refused_place (of_papers c.args.listing) c.args.stock.now),
+      omega (arith, refused_length (no_of r), c.requires),
+    )
+
+pub returns-in-Err : goal.returns-in-Err
+returns-in-Err c =
+    let papers = of_papers c.args.listing in
+    begun_refused papers c.args.stock.now _ _ _ (stopped (nos_of papers c.args.stock.now) c.in-Err.refused c.in-Err.ensures) (rw c.in-Err.ensures at c.put_refusal.ensures)
 
 -- past the refusals the stock is accepted
-pub show_first-shown-requires : goal.show_first-shown-requires
-show_first-shown-requires c = none_refused _ _ (passed (nos_of c.args.papers c.args.stock.now) _ c.refusal_of-refusal.ensures (omega arith))
+sound : (c : In_default) → IsStock c.args.stock.now
+sound c = none_refused (of_papers c.args.listing) c.args.stock.now (passed (nos_of (of_papers c.args.listing) c.args.stock.now) c.in_default.ensures)
 
-pub put_shown-length-requires : goal.put_shown-length-requires
-put_shown-length-requires c =
-    let k : IsStock c.args.stock.now = none_refused _ _ (passed (nos_of c.args.papers c.args.stock.now) _ c.refusal_of-refusal.ensures (omega arith)) in
-    (fits_at c.args.papers c.args.stock.now k 0 (some_strip c.args.stock.now c.args.papers k) _ (c.show_first-shown.ensures c.args.papers), c.requires)
+pub show_first-shown-requires : goal.show_first-shown-requires
+show_first-shown-requires c = sound (goal.at.show_first-shown-requires c).In_default
+
+pub put_shown-requires : goal.put_shown-requires
+put_shown-requires c =
+    let papers = of_papers c.args.listing in
+    let k = sound (goal.at.put_shown-requires c).In_default in
+    (fits_at papers c.args.stock.now k 0 (some_strip c.args.stock.now papers k) _ (c.show_first-shown.ensures papers), c.requires)
 
 pub returns : goal.returns
-returns c = begun_shown _ _ _ _ _ c.refusal_of-refusal.ensures _ _ (omega arith) (c.show_first-shown.ensures c.args.papers) c.put_shown-length.ensures
-
-pub returns-then-no-ne0 : goal.returns-then-no-ne0
-returns-then-no-ne0 c = begun_refused _ _ _ _ _ c.refusal_of-refusal.ensures _ _ (omega arith) c.show_none-shown.ensures c.put_refusal-length.ensures
+returns c =
+    let papers = of_papers c.args.listing in
+    begun_shown papers c.args.stock.now _ _ _ (passed (nos_of papers c.args.stock.now) c.in_default.ensures) _ (c.show_first-shown.ensures papers) c.put_shown.ensures
