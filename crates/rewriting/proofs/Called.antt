@@ -1,55 +1,51 @@
 -- Proofs. Rewriting called with any sheet and any second buffer: refused as reading is, or as writing the one form answers.
 use Prim.Native.Nat.{ℕ, ◌≤◌}
-use mathlib.Core.Path.{◌≡◌, sym, ap, ◌∙◌}
+use mathlib.Core.Path.{◌≡◌, refl, sym, ap, ◌∙◌}
 use mathlib.Core.Bool.{true}
-use mathlib.Core.List.{List, [], ◌∷◌}
+use mathlib.Core.List.{List, [], ◌∷◌, ◌++◌}
 use borrow.Author.Tests.{le-ltb}
 use lib.ListN.{length}
-use Rattle.rules.specs.Refusals.{first_of, check_nos}
-use Rattle.rules.proofs.Refusals.{refused_first, passed_first, unless_refused, unless_passed}
-use Rattle.rules.proofs.Checks.{accepted_both_back}
-use Rattle.stock.specs.declared.Refusal.{Refusal}
-use Rattle.stock.specs.Refused.{refusal}
+use Rattle.std.specs.Prelude.{Result, Ok, Err}
+use Rattle.std.specs.Result.{IsErrAnd}
+use Rattle.std.proofs.lemmas.Result.{err_from_is_err_and}
+use Rattle.rules.specs.Stock.{IsStock, IsStrip}
+use Rattle.rules.specs.Refusals.{No, fine, first_of, check_nos}
+use Rattle.rules.proofs.Refusals.{passed_first, unless_passed}
+use Rattle.rules.proofs.Checks.{accepted_both, accepted_both_back}
+use Rattle.stock.specs.declared.refused.Refused.{Refused}
+use Rattle.stock.specs.declared.refused.Refusal.{Refusal}
+use Rattle.stock.specs.Refused.{no_of, answered, refusal}
+use Rattle.stock.proofs.Told.{stopped, stopped_first, stopped_left, stopped_answer}
 use Rattle.walking.specs.Answers.{left}
 use Rattle.sheets.specs.declared.Written.{Written}
 use Rattle.sheets.specs.Writing.{short_no, fewer_no, put_nos, as_written, put_answer, sheet_put}
-use Rattle.records.specs.declared.opening.Opening.{Opening}
-use Rattle.records.specs.Records.{sheet_stock, sheet_strip}
+use Rattle.records.specs.declared.held.Opening.{Opening}
+use Rattle.records.specs.Records.{sheet_stock, sheet_strip, first_two_nos}
 use Rattle.records.specs.Opened.{held_stock, held_strip, Opened}
 use Rattle.records.proofs.FirstTwo.{first_two_refused, stock_held, strip_held}
 use Rattle.following.specs.declared.Readout.{Readout}
+use Rattle.following.specs.Following.{as_readout}
 use Rattle.reading.specs.Reading.{record_nos, read_answer}
 use Rattle.reading.proofs.Exactly.{read_roomy, read_head, read_stock, read_strip, read_right}
 use Rattle.forms.specs.Forms.{long_nos, long_answer, long_sheet}
 use Rattle.rewriting.specs.Rewriting.{moves_of, form_long, rewrite_nos, rewrite_answer, rewrite_out}
 
--- what reading answers with a buffer that is long enough
-module _ (sheet buffer : List ℕ) (room : 64 ≤ length buffer) (r : Readout) (read : r ≡ read_answer true sheet buffer) where
-  refusal_is : r.refusal ≡ refusal (first_of (record_nos true sheet))
+-- what reading tells with a buffer that is long enough
+module _ (sheet buffer : List ℕ) (room : 64 ≤ length buffer) where
+  row_of : (r : Readout) (n : No) → r.refusal ≡ refusal n → r ≡ read_answer true sheet buffer → n ≡ first_of (record_nos true sheet)
   unfolding read_answer
-  refusal_is = ap (λ (r : Readout). r.refusal) read ∙ rw (read_roomy true sheet buffer room)
+  row_of r n e is = ap (λ (f : Refusal). (f.no, f.place)) (sym e ∙ ap (λ (r : Readout). r.refusal) is) ∙ read_roomy true sheet buffer room
 
-  no_is : r.refusal.no ≡ (first_of (record_nos true sheet)).0
-  no_is = ap (λ (r : Refusal). r.no) refusal_is
+  pub read_refused : (e : Refused) → as_readout (no_of e) 0 ≡ read_answer true sheet buffer → no_of e ≡ first_of (record_nos true sheet)
+  read_refused e = row_of (as_readout (no_of e) 0) (no_of e) refl
 
-  module _ (z : r.refusal.no ≡ 0) where
-    none : (first_of (record_nos true sheet)).0 ≡ 0
-    none = sym no_is ∙ z
+  module _ (moves : ℕ) (is : as_readout fine moves ≡ read_answer true sheet buffer) where
+    pub read_fine : fine ≡ first_of (record_nos true sheet)
+    read_fine = row_of (as_readout fine moves) fine refl is
 
-    moves_are : r.moves ≡ moves_of sheet
+    pub moves_are : moves ≡ moves_of sheet
     unfolding read_answer
-    moves_are = ap (λ (r : Readout). r.moves) read ∙ rw (read_roomy true sheet buffer room) (unless_passed 0 _ _ none)
-
-    -- the records before the moves
-    module _ (o : Opening) (v : Opened 0 sheet o) where
-      pub fine_before : o.refusal.no ≡ 0
-      fine_before = ap (λ (r : Refusal). r.no) (first_two_refused sheet o v) ∙ read_head true sheet none
-
-      stock_is : held_stock o ≡ sheet_stock sheet
-      stock_is = stock_held sheet o v fine_before
-
-      strip_is : held_strip o ≡ sheet_strip sheet
-      strip_is = strip_held sheet o v fine_before
+    moves_are = ap (λ (r : Readout). r.moves) is ∙ rw (read_roomy true sheet buffer room) (unless_passed 0 _ _ (ap (λ (r : No). r.0) (sym read_fine)))
 
 -- writing refuses what rewriting a right sheet does
 same_rows : (sheet out : List ℕ) → (first_of (record_nos true sheet)).0 ≡ 0 → first_of (long_nos (sheet_stock sheet) (sheet_strip sheet) (moves_of sheet) out) ≡ first_of (rewrite_nos sheet out)
@@ -60,26 +56,34 @@ same_rows sheet out none =
     (sym (passed_first (record_nos true sheet) (short_no (form_long sheet) out ∷ []) none))
 
 module _ (sheet out : List ℕ) where
-  abbrev pub Leaves : Written → List ℕ → Type 0
-  Leaves r z = (r ≡ rewrite_answer sheet out) × (z ≡ rewrite_out sheet out)
+  abbrev pub Leaves : Result ℕ Refused → List ℕ → Type 0
+  Leaves r z = (answered as_written 0 r ≡ rewrite_answer sheet out) × (z ≡ rewrite_out sheet out)
 
-  module _ (buffer : List ℕ) (room : 64 ≤ length buffer) (r : Readout) (read : r ≡ read_answer true sheet buffer) where
-    pub refused : (r.refusal.no ≡ 0 → ⊥) → Leaves (record { refusal = r.refusal; length = 0 }) out
-    unfolding rewrite_nos rewrite_answer rewrite_out
-    refused h =
-        let a = record_nos true sheet in
-        let k : (first_of a).0 ≡ 0 → ⊥ = λ z. h (no_is sheet buffer room r read ∙ z) in
-        let e : first_of (rewrite_nos sheet out) ≡ first_of a = refused_first a (short_no (form_long sheet) out ∷ []) k in
-        rw (e, refusal_is sheet buffer room r read) (ap (as_written (first_of a)) (sym (unless_refused 0 _ (first_of a) k)), sym (unless_refused out _ (first_of a) k))
+  pub refused : (e : Refused) → no_of e ≡ first_of (record_nos true sheet) → (r : Result ℕ Refused) → IsErrAnd r (λ y. y ≡ e) → Leaves r out
+  unfolding rewrite_nos rewrite_answer rewrite_out
+  refused e is r h =
+      let p = err_from_is_err_and r h in
+      let n = record_nos true sheet ++ (short_no (form_long sheet) out ∷ []) in
+      let k : no_of e ≡ first_of n = stopped_first (record_nos true sheet) e is (short_no (form_long sheet) out ∷ []) in
+      rw (p.1, p.2) (stopped_answer n 0 (form_long sheet) as_written e k, stopped_left n out _ e k)
 
-    module _ (z : r.refusal.no ≡ 0) (o : Opening) (v : Opened 0 sheet o) where
-      pub rewritten : (w : Written) (u : List ℕ) → (w ≡ long_answer (held_stock o) (held_strip o) r.moves out) × (u ≡ long_sheet (held_stock o) (held_strip o) r.moves out) → Leaves w u
+  -- a sheet that is read
+  module _ (none : fine ≡ first_of (record_nos true sheet)) where
+    passes : (first_of (record_nos true sheet)).0 ≡ 0
+    passes = ap (λ (r : No). r.0) (sym none)
+
+    -- the records before the moves are not refused
+    pub no_refusal : (e : Refused) → Opened 0 sheet (Err e) → ⊥
+    no_refusal e o = stopped (first_two_nos sheet) e (first_two_refused sheet (Err e) o) (read_head true sheet passes)
+
+    module _ (o : Opening) (v : Opened 0 sheet (Ok o)) where
+      pub sound : IsStock (held_stock o) × IsStrip (held_stock o) (held_strip o)
+      sound = accepted_both (held_stock o) (held_strip o) o.sound
+
+      pub rewritten : (moves : ℕ) → moves ≡ moves_of sheet → (w : Written) (u : List ℕ) → (w ≡ long_answer (held_stock o) (held_strip o) moves out) × (u ≡ long_sheet (held_stock o) (held_strip o) moves out) → (w ≡ rewrite_answer sheet out) × (u ≡ rewrite_out sheet out)
       unfolding put_answer sheet_put rewrite_answer rewrite_out
-      rewritten w u x =
-          let n = same_rows sheet out (none sheet buffer room r read z) in
-          let stock = stock_is sheet buffer room r read z o v in
-          let strip = strip_is sheet buffer room r read z o v in
-          let moves = moves_are sheet buffer room r read z in
+      rewritten moves m w u x =
+          let n = same_rows sheet out passes in
           let a : long_answer (sheet_stock sheet) (sheet_strip sheet) (moves_of sheet) out ≡ rewrite_answer sheet out = rw n in
           let b : long_sheet (sheet_stock sheet) (sheet_strip sheet) (moves_of sheet) out ≡ rewrite_out sheet out = rw n in
-          (x.0 ∙ rw (stock, strip, moves) a, x.1 ∙ rw (stock, strip, moves) b)
+          (x.0 ∙ rw (stock_held sheet o v, strip_held sheet o v, m) a, x.1 ∙ rw (stock_held sheet o v, strip_held sheet o v, m) b)
