@@ -48,13 +48,12 @@ held c = omega (arith, c.moves_up_to-moves.ensures, sound_long _ _ _ c.requires)
 
 pub returns-then-not-has_room : goal.returns-then-not-has_room
 returns-then-not-has_room c =
-    rw c.refused.ensures (no_room c.args.sheet.now c.args.out.now _ _ c.requires c.moves_up_to-moves.result (made (goal.at.returns-then-not-has_room c).After-moves_up_to-moves) (c.has_room.ensures.1 (rw c.if-not-has_room.true tt)))
+    no_room c.args.sheet.now c.args.out.now _ _ c.requires c.moves_up_to-moves.result (made (goal.at.returns-then-not-has_room c).After-moves_up_to-moves) (c.has_room.ensures.1 (rw c.if-not-has_room.true tt)) _ c.at.ensures
 
 pub returns : goal.returns
 returns c =
-    rw c.unwrap_or.ensures (
     rebuilt c.args.sheet.now c.args.out.now _ _ c.requires c.moves_up_to-moves.result (made (goal.at.returns c).After-moves_up_to-moves) (room (goal.at.returns c).Else-not-has_room) c.differ-found.result
-    (rw (front (goal.at.returns c).After-put_sheet) at c.differ-found.ensures) _ c.put_sheet.ensures)
+    (rw (front (goal.at.returns c).After-put_sheet) at c.differ-found.ensures) _ c.put_sheet.ensures
 
 pub overflow_sub-most : goal.overflow_sub-most
 overflow_sub-most c = omega (arith, sound_long _ _ _ c.requires)
