@@ -1,12 +1,11 @@
 // The lines that the programs print.
 ghost use Rattle.std.specs.Prelude.{◌+◌, ◌≤◌, ◌<◌, map, length};
-ghost use Rattle.stock.specs.Refused.{no_of};
 ghost use Rattle.lines.specs.Text.{hyphen, decimal, joined, unreadable_line, refused_line, strip_line};
 ghost use Rattle.lines.specs.Puts.{Puts};
 ghost use Rattle.lines.specs.Writing.{Writes};
 
 use crate::text::Line;
-use stock::Refused;
+use stock::Refusal;
 
 // The kinds of a strip in order, joined by hyphens.
 fn put_kinds(line: &mut Line, strip: &[u8])
@@ -46,15 +45,15 @@ pub fn put_unreadable(line: &mut [u8]) -> usize
 
 // The line of a refusal.
 #[tactic(auto, using(crate::proofs::Parts::refused_room))]
-pub fn put_refusal(line: &mut [u8], refused: Refused) -> usize
-    requires { (refused.place < 1000000) × (length (refused_line (no_of refused)) ≤ length line.old) }
-    ensures { Puts line.old 0 (refused_line (no_of refused)) line.new result }
+pub fn put_refusal(line: &mut [u8], refusal: Refusal) -> usize
+    requires { (refusal.place < 1000000) × (length (refused_line (refusal.no, refusal.place)) ≤ length line.old) }
+    ensures { Puts line.old 0 (refused_line (refusal.no, refusal.place)) line.new result }
 {
     let mut text = Line::begin(line);
     text.put_word(b"refused ");
-    text.put_decimal(u64::from(refused.reason.number()));
+    text.put_decimal(u64::from(refusal.no));
     text.put_byte(b' ');
-    text.put_decimal(refused.place as u64);
+    text.put_decimal(refusal.place);
     text.put_byte(b'\n');
     text.end
 }
