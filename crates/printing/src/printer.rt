@@ -67,7 +67,7 @@ fn begin(stock: &[u16], listing: Listing, line: &mut [u8]) -> Begun
 {
     if let Err(refused) = check(stock, listing) {
         return Begun {
-            length: put_refusal(line, refused),
+            length: put_refusal(line, refused.into()),
             shown: None,
         };
     }

@@ -17,7 +17,7 @@ use Rattle.printing.proofs.printer.begin.Goals.{In_default}
 
 pub put_refusal-requires : goal.put_refusal-requires
 put_refusal-requires c =
-    let r = c.in-Err.refused in (
+    let r = c.in-Err.refused in rw c.into.ensures (
       omega (arith, ap (λ (n : No). n.1) c.in-Err.ensures, refused_place (of_papers c.args.listing) c.args.stock.now),
       omega (arith, refused_length (no_of r), c.requires),
     )
@@ -25,7 +25,7 @@ put_refusal-requires c =
 pub returns-in-Err : goal.returns-in-Err
 returns-in-Err c =
     let papers = of_papers c.args.listing in
-    begun_refused papers c.args.stock.now _ _ _ (stopped (nos_of papers c.args.stock.now) c.in-Err.refused c.in-Err.ensures) (rw c.in-Err.ensures at c.put_refusal.ensures)
+    begun_refused papers c.args.stock.now _ _ _ (stopped (nos_of papers c.args.stock.now) c.in-Err.refused c.in-Err.ensures) (rw (c.into.ensures, c.in-Err.ensures) at c.put_refusal.ensures)
 
 -- past the refusals the stock is accepted
 sound : (c : In_default) → IsStock c.args.stock.now
