@@ -3,13 +3,10 @@ use Prim.Native.Nat.{ℕ, ◌+◌, ◌-◌, ◌*◌, ◌≤◌, ◌<◌}
 use mathlib.Core.Path.{◌≡◌, sym, ap, ◌∙◌}
 use mathlib.Core.Bool.{Bool, false}
 use mathlib.Core.List.{List}
-use native.Mathlib.Decide.{ℕ_discrete}
 use native.Mathlib.Numerals.{add-one}
 use native.Mathlib.Omega.{arith}
 use lib.ListN.{length, get_or, drop}
-use Rattle.std.specs.Prelude.{Ok}
-use Rattle.rules.specs.Stock.{IsStock, IsStrip}
-use Rattle.rules.proofs.Strips.{strip_sum}
+use Rattle.rules.specs.Stock.{IsStrip}
 use Rattle.stock.specs.declared.refused.Reason.{Reason}
 use Rattle.stock.specs.declared.refused.Reason.TheVariants.{Record, Astray}
 use Rattle.stock.specs.declared.refused.Refused.{Refused}
@@ -20,7 +17,7 @@ use Rattle.walking.specs.Answers.{onward, left}
 use Rattle.walking.specs.Checked.{Checked}
 use Rattle.walking.proofs.Along.{along_none, along_strip, along_left, along_beside}
 use Rattle.following.specs.Following.{Followed, refused_at, more, follow}
-use Rattle.following.specs.Ends.{shows, NextMade, TookAny}
+use Rattle.following.specs.Ends.{shows, NextMade}
 use Rattle.following.proofs.Steps.{at_short, at_move, more_none, more_more}
 
 pub record Moving (counts sheet s : List ℕ) (from : ℕ) (t : List ℕ) (w : Walker) (at i : ℕ) : Type 0 where
@@ -46,32 +43,12 @@ begin counts sheet s w from c h move = record {
 }
 
 module _ (counts sheet s : List ℕ) (from : ℕ) (t : List ℕ) (w : Walker) (at i : ℕ) (v : Moving counts sheet s from t w at i) where
-  pub moving_checked : IsStock counts → Checked counts t w
-  moving_checked k = record { stock = k; strip = v.own; walker = v.walker }
-
-  pub moving_long : IsStrip counts s → length t ≡ length s
-  moving_long h = strip_sum counts t v.own ∙ sym (strip_sum counts s h)
-
   -- the record here refuses, behind the moves that are passed
   abbrev Halts : Refused → Type 0
   Halts e = (strides : Bool) → (follow strides counts s from (drop from sheet)).no ≡ no_of e
 
   halts : (r : Reason) → ((strides : Bool) → follow strides counts t at (drop at sheet) ≡ refused_at (number_of r) at) → Halts (record { reason = r; place = at })
   halts r k strides = ap (λ (f : Followed). f.no) (v.rest strides ∙ ap (more i) (k strides))
-
-  -- no move stands here: those before are taken
-  pub moves_taken : (at < length sheet → get_or sheet at 0 ≡ 3 → ⊥) → (bytes : ℕ) → bytes ≡ at - from → TookAny counts sheet s from (Ok (record { walker = w; bytes = bytes; moves = i })) t
-  moves_taken out bytes many strides =
-      let behind : at ≡ from + bytes = omega (arith, v.place) in
-      record {
-        follows = v.rest strides ∙ ap (λ (p : ℕ). more i (follow strides counts t p (drop p sheet))) behind;
-        inside = omega (arith, behind, v.long);
-        strip = v.strip;
-        within = v.within;
-        walker = v.walker;
-        few = λ k. absurd (omega (arith, behind, v.place));
-        some = elim (ℕ_discrete i 0) [ yes z ↦ absurd (out (v.first z).0 (v.first z).1) | no z ↦ omega (arith, behind, v.place) ];
-      }
 
   module _ (h : at < length sheet) (move : get_or sheet at 0 ≡ 3) where
     pub short_stops : length sheet - at < 3 → (e : Refused) → e ≡ record { reason = Record; place = at } → Halts e

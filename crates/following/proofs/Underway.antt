@@ -1,5 +1,5 @@
 -- Proofs. A reading under way: after i moves, what is left to follow from the strip and the byte where it stands comes to the whole.
-use Prim.Native.Nat.{ℕ, ◌+◌, ◌-◌, ◌^◌, ◌≤◌, ◌<◌}
+use Prim.Native.Nat.{ℕ, ◌+◌, ◌^◌, ◌≤◌, ◌<◌}
 use mathlib.Core.Path.{◌≡◌, refl, sym, ap, ◌∙◌}
 use mathlib.Core.Bool.{Bool, false}
 use mathlib.Core.List.{List, [], ◌∷◌}
@@ -10,7 +10,7 @@ use Rattle.std.specs.Prelude.{Result, Ok}
 use Rattle.std.specs.Result.{IsErrAnd}
 use Rattle.std.proofs.Common.{add-zero}
 use Rattle.std.proofs.lemmas.Result.{err_from_is_err_and}
-use Rattle.rules.specs.Stock.{total, IsStock, IsStrip}
+use Rattle.rules.specs.Stock.{total, IsStrip}
 use Rattle.rules.specs.Refusals.{No, fine}
 use Rattle.rules.proofs.Places.{place_below}
 use Rattle.stock.specs.declared.refused.Reason.TheVariants.{Record}
@@ -45,9 +45,6 @@ start strides counts sheet s w at c = record {
 }
 
 module _ (strides : Bool) (counts sheet : List ℕ) (whole : Followed) (t : List ℕ) (w : Walker) (at i : ℕ) (v : Underway strides counts sheet whole t w at i) where
-  pub checked : IsStock counts → Checked counts t w
-  checked k = record { stock = k; strip = v.own; walker = v.walker }
-
   -- refused here
   pub halt : (e : Refused) → (follow strides counts t at (drop at sheet)).no ≡ no_of e → whole.no ≡ no_of e
   halt e k = ap (λ (f : Followed). f.no) v.rest ∙ k
@@ -77,10 +74,6 @@ module _ (strides : Bool) (counts sheet : List ℕ) (whole : Followed) (t : List
 
   -- records here
   module _ (r : Taken) (u : List ℕ) (p : Passed strides counts sheet t at r u) where
-    -- the byte behind them fits 64 bits
-    pub byte_fits : length sheet < 2 ^ 64 → at + r.bytes < 2 ^ 64
-    byte_fits l = omega (arith, p.inside)
-
     pub on : Underway strides counts sheet whole u r.walker (at + r.bytes) (i + r.moves)
     on = record {
       fewer = λ l. elim (dec_lt at i) [ yes m ↦ v.fewer m | no m ↦ p.few (omega arith) ];
@@ -89,13 +82,3 @@ module _ (strides : Bool) (counts sheet : List ℕ) (whole : Followed) (t : List
       walker = p.walker;
       rest = v.rest ∙ ap (more i) p.follows ∙ more_more i r.moves (follow strides counts u (at + r.bytes) (drop (at + r.bytes) sheet));
     }
-
-    -- the moves fit 64 bits
-    pub moves_fit : length sheet < 2 ^ 64 → i + r.moves < 2 ^ 64
-    moves_fit l = elim (dec_lt at i) [
-      | yes m ↦ omega (arith, v.fewer m, v.ahead, p.within)
-      | no m ↦ elim (dec_lt r.bytes r.moves) [ yes n ↦ omega (arith, p.few n, v.ahead, p.within) | no n ↦ omega (arith, p.inside) ]
-    ]
-
-    pub nearer : length sheet - (at + r.bytes) < length sheet - at
-    nearer = omega (arith, p.inside, p.some)
