@@ -1,9 +1,9 @@
 // Prints the book of a stock: reads one line of counts from standard input, and writes a line for each strip, with its number.
 #![tactic(auto)]
 
-use printout::print_out;
+use printout::{Listing, print_out};
 use std::io;
 
 fn main(rt: HostRuntime) -> io::Result<()> {
-    print_out(rt.stdin(), rt.stdout(), false)
+    print_out(rt.stdin(), rt.stdout(), Listing::Book)
 }

@@ -2,52 +2,27 @@
 // first six lines and the last of the book are written, and then those of the catalogue, either with a line with a percent sign after them.
 #![tactic(auto)]
 
-use printing::printer::{first_line, next_line};
-use printout::read_full;
+use printout::{Line, Listing, each_line, read_full};
 use std::io::{self, Stdout};
 
-// A line is held until the length of the next one is known: it is the last where there is none.
-fn show_held(stdout: Stdout, held: &[u8], lines: usize, next: usize) -> io::Result<()> {
-    if lines <= 6 || next == 0 {
-        stdout.write_all(held)?;
-    }
-    Ok(())
-}
-
-fn show(stdout: Stdout, input: &[u8], papers: bool) -> io::Result<()> {
-    let mut line = [0u8; 256];
-    let mut printed = first_line(input, papers, &mut line);
-    let mut lines: usize = 0;
-    while lines < 4096 {
-        let n = printed.length;
-        if n == 0 {
-            return Ok(());
+fn show(stdout: Stdout, input: &[u8], listing: Listing) -> io::Result<()> {
+    each_line(input, listing, |line: Line<'_>| {
+        if line.index < 6 || line.last {
+            stdout.write_all(line.bytes)?;
         }
-        let held = line;
-        printed = next_line(printed.printer, &mut line);
-        lines += 1;
-        show_held(stdout, &held[..n], lines, printed.length)?;
-    }
-    Ok(())
-}
-
-fn show_case(stdout: Stdout, input: &[u8]) -> io::Result<()> {
-    show(stdout, input, false)?;
-    stdout.write_all(b"%\n")?;
-    show(stdout, input, true)?;
+        Ok(())
+    })?;
     stdout.write_all(b"%\n")
 }
 
+// The bytes behind the last percent sign are no input.
 fn show_each(stdout: Stdout, inputs: &[u8]) -> io::Result<()> {
-    let mut from = 0;
-    let mut i = 0;
-    while i < inputs.len() {
-        let at = i;
-        i += 1;
-        if inputs[at] == b'%' {
-            show_case(stdout, &inputs[from..at])?;
-            from = i;
-        }
+    let Some(end) = inputs.iter().rposition(|byte| *byte == b'%') else {
+        return Ok(());
+    };
+    for input in inputs[..end].split(|byte| *byte == b'%') {
+        show(stdout, input, Listing::Book)?;
+        show(stdout, input, Listing::Papers)?;
     }
     Ok(())
 }

@@ -3,27 +3,47 @@
 
 ghost use Rattle.std.specs.Prelude.{◌≤◌, length, IfOk};
 
+pub use printing::printer::Listing;
 use printing::printer::{first_line, next_line};
 use std::io::{self, Read, Stdin, Stdout};
 
-// No output has more than 4,096 lines.
-fn print(stdout: Stdout, input: &[u8], papers: bool) -> io::Result<()> {
+// A line that is printed: its bytes, its index, and whether it is the last.
+#[derive(Clone, Copy)]
+pub struct Line<'a> {
+    pub bytes: &'a [u8],
+    pub index: usize,
+    pub last: bool,
+}
+
+// Hands on the lines for an input, one after the other. No output has more than 4,096. A line is held until it is known whether there is a next one.
+pub fn each_line<F: FnMut(Line<'_>) -> io::Result<()>>(
+    input: &[u8],
+    listing: Listing,
+    mut put: F,
+) -> io::Result<()>
+    requires { F.IsAlwaysCallable put }
+{
     let mut line = [0u8; 256];
-    let mut printed = first_line(input, papers, &mut line);
-    let mut lines: usize = 0;
-    while lines < 4096 {
-        let n = printed.length;
-        if n == 0 {
+    let mut printed = first_line(input, listing, &mut line);
+    for index in 0..4096 {
+        let held = line;
+        let length = printed.length;
+        let next = next_line(printed.printer, &mut line);
+        put(Line {
+            bytes: &held[..length],
+            index,
+            last: next.is_none(),
+        })?;
+        let Some(next) = next else {
             return Ok(());
-        }
-        stdout.write_all(&line[..n])?;
-        printed = next_line(printed.printer, &mut line);
-        lines += 1;
+        };
+        printed = next;
     }
     Ok(())
 }
 
-// Reads until the buffer is full or the input ends. Gives how many bytes were read: they stand at the front.
+// Reads until the buffer is full or the input ends. Gives how many bytes were read: they stand at the front. The loop counts the bytes that came, a
+// read's worth at a time, so no form that goes from index to index fits it.
 pub fn read_full(stdin: Stdin, buffer: &mut [u8]) -> io::Result<usize>
     ensures { IfOk result (λ n. n ≤ length buffer.new) }
 {
@@ -40,8 +60,8 @@ pub fn read_full(stdin: Stdin, buffer: &mut [u8]) -> io::Result<usize>
 }
 
 // The book of the stock that is read, or its papers. One byte more is read than a line may have: a longer input is unreadable.
-pub fn print_out(stdin: Stdin, stdout: Stdout, papers: bool) -> io::Result<()> {
+pub fn print_out(stdin: Stdin, stdout: Stdout, listing: Listing) -> io::Result<()> {
     let mut input = [0u8; 256];
     let n = read_full(stdin, &mut input)?;
-    print(stdout, &input[..n], papers)
+    each_line(&input[..n], listing, |line| stdout.write_all(line.bytes))
 }
