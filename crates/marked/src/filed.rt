@@ -7,35 +7,32 @@ use drawers::strip::dictionary_strip;
 use std::io::{self, Stdout};
 
 pub fn of_number(stdout: Stdout, stock: &[u16], blocks: &[u8]) -> io::Result<()> {
-    say::call_on(stdout, b"Dictionary number", stock, blocks)?;
+    say::call_on(stdout, "Dictionary number", stock, blocks)?;
     let filed = dictionary_number(stock, blocks);
-    let refusal = filed.refusal;
-    say::number(stdout, refusal, filed.number)
+    say::number(stdout, filed.refusal, filed.number)
 }
 
 // The strip stays in the lent buffer.
 pub fn of_strip(stdout: Stdout, stock: &[u16], at: u64, buffer: &mut [u8]) -> io::Result<()> {
-    say::call_at(stdout, b"Dictionary strip", stock, at)?;
+    say::call_at(stdout, "Dictionary strip", stock, at)?;
     let refused = dictionary_strip(stock, at, buffer);
     say::blocks(stdout, refused, buffer)
 }
 
 pub fn of_next(stdout: Stdout, stock: &[u16], blocks: &mut [u8]) -> io::Result<()> {
-    say::call_on(stdout, b"Dictionary next", stock, blocks)?;
+    say::call_on(stdout, "Dictionary next", stock, blocks)?;
     let refused = dictionary_next(stock, blocks);
     say::blocks(stdout, refused, blocks)
 }
 
 pub fn of_to_dictionary(stdout: Stdout, stock: &[u16], at: u64) -> io::Result<()> {
-    say::call_at(stdout, b"To dictionary", stock, at)?;
+    say::call_at(stdout, "To dictionary", stock, at)?;
     let filed = to_dictionary(stock, at);
-    let refusal = filed.refusal;
-    say::number(stdout, refusal, filed.number)
+    say::number(stdout, filed.refusal, filed.number)
 }
 
 pub fn of_to_book(stdout: Stdout, stock: &[u16], at: u64) -> io::Result<()> {
-    say::call_at(stdout, b"To book", stock, at)?;
+    say::call_at(stdout, "To book", stock, at)?;
     let filed = to_book(stock, at);
-    let refusal = filed.refusal;
-    say::number(stdout, refusal, filed.number)
+    say::number(stdout, filed.refusal, filed.number)
 }

@@ -10,53 +10,34 @@ use walker::open::open;
 use walking::walk::walk;
 
 pub fn of_count(stdout: Stdout, stock: &[u16]) -> io::Result<()> {
-    say::call(stdout, b"Count", stock)?;
+    say::call(stdout, "Count", stock)?;
     let counted = count(stock);
-    let refusal = counted.refusal;
-    say::number(stdout, refusal, counted.total)
+    say::number(stdout, counted.refusal, counted.total)
 }
 
 pub fn of_number(stdout: Stdout, stock: &[u16], blocks: &[u8]) -> io::Result<()> {
-    say::call_on(stdout, b"Number", stock, blocks)?;
+    say::call_on(stdout, "Number", stock, blocks)?;
     let numbered = number(stock, blocks);
-    let refusal = numbered.refusal;
-    say::number(stdout, refusal, numbered.number)
+    say::number(stdout, numbered.refusal, numbered.number)
 }
 
 // The strip stays in the lent buffer.
 pub fn of_strip(stdout: Stdout, stock: &[u16], at: u64, buffer: &mut [u8]) -> io::Result<()> {
-    say::call_at(stdout, b"Strip", stock, at)?;
+    say::call_at(stdout, "Strip", stock, at)?;
     let refused = strip(stock, at, buffer);
     say::blocks(stdout, refused, buffer)
 }
 
 // From the first strip of a book to a far one: only whether it is refused is of interest.
 pub fn of_distance(stdout: Stdout, stock: &[u16], first: &[u8], to: &[u8]) -> io::Result<()> {
-    say::call_on(stdout, b"Distance from the first", stock, to)?;
-    let apart = distance(stock, first, to);
-    let refusal = apart.refusal;
-    say::refusal(stdout, refusal)
-}
-
-// Walk or Run, and the direction.
-fn directed(
-    stdout: Stdout,
-    on: &[u8],
-    backward: &[u8],
-    stock: &[u16],
-    blocks: &[u8],
-    back: bool,
-) -> io::Result<()> {
-    if back {
-        return say::call_on(stdout, backward, stock, blocks);
-    }
-    say::call_on(stdout, on, stock, blocks)
+    say::call_on(stdout, "Distance from the first", stock, to)?;
+    say::refusal(stdout, distance(stock, first, to).refusal)
 }
 
 pub fn of_walk(stdout: Stdout, stock: &[u16], blocks: &mut [u8], back: bool) -> io::Result<()> {
-    directed(stdout, b"Walk on", b"Walk back", stock, blocks, back)?;
-    let opened = open(stock, blocks);
-    let walker = opened.walker;
+    let name = if back { "Walk back" } else { "Walk on" };
+    say::call_on(stdout, name, stock, blocks)?;
+    let walker = open(stock, blocks).walker;
     say::places(stdout, walk(stock, blocks, walker, back))
 }
 
@@ -67,8 +48,8 @@ pub fn of_run(
     back: bool,
     list: &mut [u8],
 ) -> io::Result<()> {
-    directed(stdout, b"Run on", b"Run back", stock, blocks, back)?;
-    let opened = open(stock, blocks);
-    let walker = opened.walker;
+    let name = if back { "Run back" } else { "Run on" };
+    say::call_on(stdout, name, stock, blocks)?;
+    let walker = open(stock, blocks).walker;
     say::moves(stdout, run(stock, blocks, walker, back, list))
 }

@@ -21,14 +21,7 @@ pub fn of_rebuild(
     spoiled: usize,
     out: &mut [u8],
 ) -> io::Result<()> {
-    say::call_sheet(
-        stdout,
-        stock,
-        blocks,
-        moves,
-        sheet.len() as u64,
-        spoiled as u64,
-    )?;
+    say::call_sheet(stdout, stock, blocks, moves, sheet.len(), spoiled)?;
     write_sheet(stock, blocks, moves, sheet);
     spoil(sheet, spoiled);
     say::rebuilt(stdout, rebuild(sheet, out))

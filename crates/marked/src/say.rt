@@ -1,57 +1,43 @@
 // The parts of a printed line: the call with what it is lent, and what came.
 use rebuilding::Rebuilt;
 use running::run::Ran;
+use std::fmt::{self, Display};
 use std::io::{self, Stdout};
 use stock::Refusal;
 use walking::Moved;
 
-// Words, then a number.
-fn said(stdout: Stdout, words: &[u8], number: u64) -> io::Result<()> {
-    stdout.write_all(words)?;
-    stdout.print(number)
-}
+// The kinds of a strip in order, with nothing between.
+#[derive(Clone, Copy)]
+struct Kinds<'a>(&'a [u8]);
 
-fn count(stdout: Stdout, amount: u16) -> io::Result<()> {
-    said(stdout, b" ", amount as u64)
-}
-
-fn block(stdout: Stdout, kind: u8) -> io::Result<()> {
-    stdout.print(kind as u64)
-}
-
-// The blocks, with nothing between.
-fn strip(stdout: Stdout, blocks: &[u8]) -> io::Result<()> {
-    let mut i = 0;
-    while i < blocks.len() {
-        block(stdout, blocks[i])?;
-        i += 1;
+impl Display for Kinds<'_> {
+    fn fmt<W: fmt::Write>(&self, f: &mut fmt::Formatter<W>) -> fmt::Result {
+        for kind in self.0 {
+            write!(f, "{kind}")?;
+        }
+        Ok(())
     }
-    Ok(())
 }
 
 // A call and its counts.
-pub fn call(stdout: Stdout, name: &[u8], stock: &[u16]) -> io::Result<()> {
-    stdout.write_all(name)?;
-    stdout.write_all(b", counts")?;
-    let mut i = 0;
-    while i < stock.len() {
-        count(stdout, stock[i])?;
-        i += 1;
+pub fn call(stdout: Stdout, name: &str, stock: &[u16]) -> io::Result<()> {
+    print!(stdout; "{name}, counts")?;
+    for count in stock {
+        print!(stdout; " {count}")?;
     }
     Ok(())
 }
 
 // A call, its counts and its strip.
-pub fn call_on(stdout: Stdout, name: &[u8], stock: &[u16], blocks: &[u8]) -> io::Result<()> {
+pub fn call_on(stdout: Stdout, name: &str, stock: &[u16], blocks: &[u8]) -> io::Result<()> {
     call(stdout, name, stock)?;
-    stdout.write_all(b", strip ")?;
-    strip(stdout, blocks)
+    print!(stdout; ", strip {}", Kinds(blocks))
 }
 
 // A call, its counts and its number.
-pub fn call_at(stdout: Stdout, name: &[u8], stock: &[u16], number: u64) -> io::Result<()> {
+pub fn call_at(stdout: Stdout, name: &str, stock: &[u16], number: u64) -> io::Result<()> {
     call(stdout, name, stock)?;
-    said(stdout, b", number ", number)
+    print!(stdout; ", number {number}")
 }
 
 // Rebuilding, with its counts, its strip and its moves, in so many bytes of which one is spoiled.
@@ -60,75 +46,61 @@ pub fn call_sheet(
     stock: &[u16],
     blocks: &[u8],
     moves: u64,
-    bytes: u64,
-    spoiled: u64,
+    bytes: usize,
+    spoiled: usize,
 ) -> io::Result<()> {
-    call_on(stdout, b"Rebuild", stock, blocks)?;
-    said(stdout, b", moves ", moves)?;
-    said(stdout, b", bytes ", bytes)?;
-    said(stdout, b", spoiled at ", spoiled)
+    call_on(stdout, "Rebuild", stock, blocks)?;
+    print!(stdout; ", moves {moves}, bytes {bytes}, spoiled at {spoiled}")
 }
 
 // The number and the place of a refusal: 0 and 0 where the call was not refused.
 pub fn refusal(stdout: Stdout, refused: Refusal) -> io::Result<()> {
-    said(stdout, b": refusal ", refused.no as u64)?;
-    said(stdout, b" place ", refused.place)?;
-    stdout.write_all(b"\n")
+    let Refusal { no, place } = refused;
+    println!(stdout; ": refusal {no} place {place}")
 }
 
-// The refusal, or the number where the call was not refused.
-pub fn number(stdout: Stdout, refused: Refusal, found: u64) -> io::Result<()> {
-    let no = refused.no;
-    if no != 0 {
+// The refusal, or what came where the call was not refused.
+fn answer<D: Display + Drop>(stdout: Stdout, refused: Refusal, came: D) -> io::Result<()> {
+    if refused.no != 0 {
         return refusal(stdout, refused);
     }
-    said(stdout, b": ", found)?;
-    stdout.write_all(b"\n")
+    println!(stdout; ": {came}")
+}
+
+// The refusal, or the number.
+pub fn number(stdout: Stdout, refused: Refusal, found: u64) -> io::Result<()> {
+    answer(stdout, refused, found)
 }
 
 // The refusal, or the strip.
 pub fn blocks(stdout: Stdout, refused: Refusal, found: &[u8]) -> io::Result<()> {
-    let no = refused.no;
-    if no != 0 {
-        return refusal(stdout, refused);
-    }
-    stdout.write_all(b": ")?;
-    strip(stdout, found)?;
-    stdout.write_all(b"\n")
+    answer(stdout, refused, Kinds(found))
 }
 
 // The refusal, or the two places.
 pub fn places(stdout: Stdout, moved: Moved) -> io::Result<()> {
-    let refused = moved.refusal;
-    if refused.no != 0 {
-        return refusal(stdout, refused);
-    }
-    said(stdout, b": places ", moved.low as u64)?;
-    said(stdout, b" ", moved.high as u64)?;
-    stdout.write_all(b"\n")
+    let Moved { low, high, .. } = moved;
+    answer(stdout, moved.refusal, format_args!("places {low} {high}"))
 }
 
-// The moves made, and yes where the strip is at the end of the book.
+// The refusal, or the moves made, and yes where the strip is at the end of the book.
 pub fn moves(stdout: Stdout, ran: Ran) -> io::Result<()> {
-    let refused = ran.refusal;
-    if refused.no != 0 {
-        return refusal(stdout, refused);
-    }
-    said(stdout, b": moves ", ran.moves)?;
-    if ran.ended {
-        return stdout.write_all(b", yes\n");
-    }
-    stdout.write_all(b", no\n")
+    let moves = ran.moves;
+    let ended = if ran.ended { "yes" } else { "no" };
+    answer(stdout, ran.refusal, format_args!("moves {moves}, {ended}"))
 }
 
 // The refusal, or the moves, how many differed and the first of them.
 pub fn rebuilt(stdout: Stdout, found: Rebuilt) -> io::Result<()> {
-    let refused = found.refusal;
-    if refused.no != 0 {
-        return refusal(stdout, refused);
-    }
-    said(stdout, b": moves ", found.moves)?;
-    said(stdout, b", differing ", found.differing)?;
-    said(stdout, b", first ", found.first)?;
-    stdout.write_all(b"\n")
+    let Rebuilt {
+        moves,
+        differing,
+        first,
+        ..
+    } = found;
+    answer(
+        stdout,
+        found.refusal,
+        format_args!("moves {moves}, differing {differing}, first {first}"),
+    )
 }
