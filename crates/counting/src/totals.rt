@@ -8,7 +8,8 @@ ghost use Rattle.counting.specs.Patterns.{ArePatterns};
 use choose::choose;
 use stock::{Reason, Refused};
 
-// C(N(j), N(j-1)) for each kind j of the stock, kind 1 first. A call works them out once and lends them on.
+// C(N(j), N(j-1)) for each kind j of the stock, kind 1 first. A call works them out once and lends them on. They
+// are no struct with their stock: each function takes the two as it takes the stock and the strip beside them.
 pub fn patterns_of(stock: &[u16]) -> [u64; 16]
     requires { IsStock stock.now }
     ensures { ArePatterns stock.now result }

@@ -50,7 +50,6 @@ fn read_counts(line: &[u8]) -> Option<Counts>
 }
 
 // The counts of a line: it ends with a line feed, and has at most 255 bytes. None where it cannot be read.
-
 #[tactic(auto, using(crate::proofs::ReadOn::no_bytes, crate::proofs::ReadOn::long_line))]
 pub fn read_line(input: &[u8]) -> Option<Counts>
     ensures { result ≡ line_read (counts_read input.now) }

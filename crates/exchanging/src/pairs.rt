@@ -15,7 +15,7 @@ fn is_pair(low: u8, high: u8, n: usize) -> bool
     0 < low && low < high && high as usize <= n
 }
 
-// The number, from 1, of the first pair that is not so, or of half a pair at the end.
+// The number, from 1, of the first pair that is not so, or of half a pair at the end. Pair k is places 2k and 2k + 1, as the laws of `bar` count them.
 #[tactic(auto, using(bar::proofs::Pairs::sought_start, bar::proofs::Pairs::sought_on))]
 fn wrong_pair(pairs: &[u8], n: usize) -> Option<usize>
     ensures { result ≡ found_at (wrong_from 1 n pairs.now) }

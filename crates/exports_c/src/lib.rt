@@ -1,5 +1,5 @@
 // The library that C programs link. Each call is the one of `exports` with its contract, under the symbol that C knows; include/nelfrupi.h tells a C
-// programmer what it says.
+// programmer what it says. A crate is a library or a static library, so the functions stand in `exports` too, which the theorems cite.
 #![tactic(auto)]
 
 ghost use Rattle.std.specs.Prelude.{◌≡◌, true, false};

@@ -13,7 +13,7 @@ use walker::Walker;
 use walker::directions::walker_of;
 use walking::stepping::step;
 
-// The kinds of the records behind the strip.
+// The kinds of the records behind the strip. A reader takes nothing from the crate that writes sheets, so the bytes are named here as well.
 const MOVE: u8 = 3;
 
 pub const END: u8 = 4;

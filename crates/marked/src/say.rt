@@ -61,6 +61,7 @@ pub fn refusal(stdout: Stdout, refused: Refusal) -> io::Result<()> {
 
 // The refusal, or what came where the call was not refused.
 fn answer<D: Display + Drop>(stdout: Stdout, refused: Refusal, came: D) -> io::Result<()> {
+    // The calls answer C's records.
     if refused.no != 0 {
         return refusal(stdout, refused);
     }

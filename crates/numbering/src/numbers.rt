@@ -24,7 +24,7 @@ fn numbered_by(patterns: u64, number: u64, index: u64) -> u64
     number * patterns + faced(number % 2 == 1, patterns, index)
 }
 
-// The number and the cuts of a strip whose stock can be numbered, one kind more at a time.
+// The number and the cuts of a strip whose stock can be numbered, one kind more at a time. There is no heap here: one word of 64 blocks serves all kinds.
 pub fn number_of(patterns: &[u64; 16], stock: &[u16], strip: &[u8]) -> Placed
     requires { ArePatterns stock.now patterns.now × IsStock stock.now × IsStrip stock.now strip.now × (total stock.now < 2 ^ 64) }
     ensures { (result.number ≡ place_in (book stock.now) strip.now) × (result.cuts ≡ strip_cuts stock.now strip.now) }

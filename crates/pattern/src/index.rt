@@ -45,7 +45,7 @@ impl Part {
 
 // By the rule, words that end in K come first, then those that end in K R, in reverse order, then those that end in R R. So each turn is a cut, which takes
 // one or two letters off the end of the word, and what is left of the list narrows: a letters and b letters R are left, with the part of the list that has
-// their patterns.
+// their patterns. Letters of both sorts are left in a turn, so two at least. A `while let` over the letters took 1 to 4 hundredths longer.
 pub fn index_of(patterns: u64, word: &[u8], kind: u8, others: usize) -> Indexed
     requires { (length word.now ≤ 64) × (others ≡ rests kind word.now) × (patterns ≡ binom (length word.now) others) }
     ensures { (result.index ≡ index kind word.now) × (result.cuts ≡ cuts (pattern kind word.now)) }
@@ -63,7 +63,6 @@ pub fn index_of(patterns: u64, word: &[u8], kind: u8, others: usize) -> Indexed
         if b == 0 {
             break;
         }
-        // Letters of both sorts are left, so two at least.
         let [but_two @ .., before, last] = left else {
             break;
         };
@@ -84,8 +83,6 @@ pub fn index_of(patterns: u64, word: &[u8], kind: u8, others: usize) -> Indexed
             b -= 2;
         }
     }
-    Indexed {
-        index: part.from,
-        cuts,
-    }
+    let index = part.from;
+    Indexed { index, cuts }
 }

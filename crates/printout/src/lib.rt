@@ -49,6 +49,7 @@ pub fn read_full(stdin: Stdin, buffer: &mut [u8]) -> io::Result<usize>
 {
     let mut from = stdin;
     let mut done: usize = 0;
+    // It counts how far a read has come, and no places.
     while done < buffer.len() {
         let n = from.read(&mut buffer[done..])?;
         if n == 0 {

@@ -8,7 +8,7 @@ ghost use Rattle.records.specs.Records.{record_no};
 use std::array;
 use stock::{Reason, Refused};
 
-// The kinds of the two records.
+// The kinds of the two records. A reader takes nothing from the crate that writes sheets, so the bytes are named here as well.
 pub const STOCK: u8 = 1;
 
 pub const STRIP: u8 = 2;

@@ -2,7 +2,7 @@
 ghost use Rattle.std.specs.Prelude.{◌≡◌, ◌≤◌, length, take};
 ghost use Rattle.rules.specs.Refusals.{first_of, check_nos};
 
-// An accepted stock, the first of sixteen counts, and a strip of it, which stands in the sheet.
+// An accepted stock, the first of sixteen counts, and a strip of it, which stands in the sheet. There is no heap here, and a stock has sixteen kinds at most.
 #[derive(Drop)]
 pub struct Opening<'a> {
     pub counts: [u16; 16],

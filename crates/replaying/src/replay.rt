@@ -55,7 +55,7 @@ fn exchange_all(
 }
 
 // A replay that nothing refuses, with flags for the strips of the book, all clear: how many exchanges were the walk's next move, how many different strips
-// stood, and the smallest number of one that never did.
+// stood, and the smallest number of one that never did. The three stand as the definition has them.
 fn replay_with(
     patterns: &[u64; 16],
     stock: &[u16],

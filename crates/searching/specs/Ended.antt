@@ -1,4 +1,5 @@
--- TO BE BELIEVED. The number of an outcome in an answer: 1 found, 2 none left, 3 stopped; and a search that ended so, as a loop promises it.
+-- The number of an outcome in an answer: 1 found, 2 none left, 3 stopped; and a search that ended so, as a loop promises it. No open call's contract cites
+-- them, so nothing here is to be believed.
 use Rattle.std.specs.Prelude.{ℕ, Bool, List}
 use Rattle.searching.specs.Sought.{Sought}
 use Rattle.searching.specs.declared.Outcome.{Outcome}

@@ -6,7 +6,7 @@ ghost use Rattle.sheets.specs.Sheets.{stock_record, strip_record, end_record};
 use crate::Record;
 use copying::{copied, copy};
 
-// A record: one byte of kind, then the body. Any byte was always taken for a kind here, and a caller is asked no more than that.
+// A record: one byte of kind, then the body. Any byte is taken for a kind, so that a caller is asked for no more than room.
 pub fn put_record(rest: &mut [u8], kind: u8, body: &[u8])
     requires { length body.now < length rest.old }
     ensures { rest.new ≡ (kind ∷ body.now) ++ drop (suc (length body.now)) rest.old }

@@ -71,6 +71,7 @@ fn next_in_papers(stock: &[u16], shown: Shown) -> Option<Shown>
     let mut strip = shown.strip;
     let given = 999999 - shown.number;
     let stepped = next_paper(stock, &mut strip[..n], given);
+    // The call answers C's record.
     if stepped.outcome != 1 {
         return None;
     }

@@ -6,7 +6,7 @@ ghost use Rattle.stock.specs.Refused.{told};
 
 use crate::refused::{Reason, Refused};
 
-// The sum of the counts, or 65 where it is more.
+// The sum of the counts, or 65 where it is more: a sum that is cut off, and no Option, since its callers hold it against 64 or a length.
 pub fn blocks(stock: &[u16]) -> usize
     ensures { result ≡ min 65 (sum stock.now) }
 {

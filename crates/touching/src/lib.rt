@@ -13,8 +13,9 @@ fn begin(n: usize, seen: usize, changed: usize) -> usize
     seen.max(changed + 1).min(n - 1)
 }
 
-// The last place whose block is like the one before it, where there is one. `seen` is that place in the strip before a move, or 0 where it had none, and
-// `changed` the larger place that the move changed: no place behind both is like the next, so only those in front are looked at.
+// The last place whose block is like the one before it, where there is one. `seen` is that place in the strip before a move, and `changed` the
+// larger place that the move changed: no place behind both is like the next, so only those in front are looked at. `seen` is no Option: it is the bound from
+// which the search goes to the front, 0 where there was no such place, and the last place of all where nothing is known yet.
 pub fn last_touching(strip: &[u8], seen: usize, changed: usize) -> Option<usize>
     requires { (seen < length strip.now) × (changed < length strip.now) × FreeBehind strip.now seen changed }
     ensures { IsLast strip.now result }

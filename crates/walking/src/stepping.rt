@@ -1,6 +1,6 @@
 // One move on a checked strip: finding it, and making it.
-// Stock, strip and walker are no struct with `Checked` as its ghost field. Tried: a move changes the strip before the walker turns, so the field fails between,
-// and a struct taken apart, to change both before the field is asked again, is a form that gets no generated proof.
+// Stock, strip and walker are no struct with `Checked` as its ghost field. A move changes the strip before the walker turns, so the field fails in between,
+// and of a struct that is taken apart for that the checker writes no proof.
 ghost use Rattle.std.specs.Prelude.{◌≤◌, ◌<◌, ◌≡◌, length};
 ghost use Rattle.rules.specs.Neighbours.{swap};
 ghost use Rattle.walking.specs.Checked.{Checked, Sought, IsStep, as_made, step_answer, step_strip};
