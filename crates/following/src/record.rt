@@ -28,7 +28,9 @@ pub struct Taken {
     pub moves: u64,
 }
 
-// Makes the next move of the strip, where it is the one that exchanges these two places; answers the walker behind it.
+// Makes the next move of the strip, where it is the one that exchanges these two places; answers the walker behind it. A move that is refused leaves the
+// strip one move past its walker, so that no struct of the stock, the strip and the walker could say that they belong together: they are passed one by
+// one.
 fn make_move(stock: &[u16], strip: &mut [u8], walker: Walker, low: u8, high: u8) -> Option<Walker>
     requires { Checked stock.now strip.old walker }
     ensures { NextMove stock.now strip.old low high result strip.new }
