@@ -6,6 +6,7 @@ ghost use Rattle.following.specs.Editions.{has_strides};
 ghost use Rattle.following.specs.Ends.{NextMove, Took, TookAny};
 
 use crate::Edition;
+use sheets::Record;
 use stock::{Reason, Refused};
 use strides::bytes::number_at;
 use strides::making::stride_on;
@@ -13,12 +14,12 @@ use walker::Walker;
 use walker::directions::walker_of;
 use walking::stepping::step;
 
-// The kinds of the records behind the strip. A reader takes nothing from the crate that writes sheets, so the bytes are named here as well.
-const MOVE: u8 = 3;
+// The kinds of the records behind the strip.
+const MOVE: u8 = Record::Move as u8;
 
-pub const END: u8 = 4;
+pub const END: u8 = Record::End as u8;
 
-const STRIDE: u8 = 5;
+const STRIDE: u8 = Record::Stride as u8;
 
 // Records that are passed: the walker behind them, their bytes and their moves.
 #[derive(Clone, Copy)]

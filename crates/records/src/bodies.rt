@@ -5,13 +5,14 @@ ghost use Rattle.rules.specs.SoldOut.{used};
 ghost use Rattle.stock.specs.Refused.{told};
 ghost use Rattle.records.specs.Records.{record_no};
 
+use sheets::Record;
 use std::array;
 use stock::{Reason, Refused};
 
-// The kinds of the two records. A reader takes nothing from the crate that writes sheets, so the bytes are named here as well.
-pub const STOCK: u8 = 1;
+// The kinds of the two records.
+pub const STOCK: u8 = Record::Stock as u8;
 
-pub const STRIP: u8 = 2;
+pub const STRIP: u8 = Record::Strip as u8;
 
 // Refusal 11 where the record at a byte is not of this kind or its body is cut short.
 pub fn check_record(sheet: &[u8], at: usize, kind: u8, body: usize) -> Result<(), Refused>
