@@ -1,7 +1,7 @@
 // Printout: what the two printing programs do. The line on standard input is read, and the printer's lines are written to standard output.
 #![tactic(auto)]
 
-ghost use Rattle.std.specs.Prelude.{◌≤◌, length, IfOk};
+ghost use Rattle.std.specs.Prelude.{◌≤◌, length, IfOk, IfErr};
 
 pub use printing::printer::Listing;
 use printing::printer::{first_line, next_line};
@@ -15,13 +15,15 @@ pub struct Line<'a> {
     pub last: bool,
 }
 
-// Hands on the lines for an input, one after the other. No output has more than 4,096. A line is held until it is known whether there is a next one.
+// Hands on the lines for an input, one after the other. No output has more than 4,096. A line is held until it is known whether there is a next one. It fails
+// only where what it hands a line to does.
 pub fn each_line<F: FnMut(Line<'_>) -> io::Result<()>>(
     input: &[u8],
     listing: Listing,
     mut put: F,
 ) -> io::Result<()>
     requires { F.IsAlwaysCallable put }
+    ensures { IfErr result (λ e. (before : F) × (handed : _) × (behind : F) × F.step before handed (Err e) behind) }
 {
     let mut line = [0u8; 256];
     let mut printed = first_line(input, listing, &mut line);
@@ -49,7 +51,6 @@ pub fn read_full(stdin: Stdin, buffer: &mut [u8]) -> io::Result<usize>
 {
     let mut from = stdin;
     let mut done: usize = 0;
-    // It counts how far a read has come, and no places.
     while done < buffer.len() {
         let n = from.read(&mut buffer[done..])?;
         if n == 0 {
