@@ -1,5 +1,5 @@
 -- Proofs. Conversion from what its two halves answer: the strip of a number in one list, and the number of that strip in another.
-use Prim.Native.Nat.{ℕ, min, ◌^◌, ◌<◌}
+use Prim.Native.Nat.{ℕ, min, ◌^◌, ◌<◌, ◌≤◌}
 use mathlib.Core.Path.{◌≡◌, sym, ap, ◌∙◌}
 use mathlib.Core.List.{List, [], ◌∷◌}
 use native.Mathlib.Decide.{ℕ_discrete}
@@ -26,8 +26,12 @@ only Book counts = book_only counts
 only Dictionary counts = dictionary_only counts
 
 -- a word of as many places as the stock has blocks
-pub as_long : {counts : List ℕ} {n m : ℕ} → n ≡ min 65 (sum counts) → m ≡ min n 64 → IsStock counts → length (take m (replicate {A = ℕ} 64 0)) ≡ sum counts
-as_long {m = m} is k stock = length-take-le m (replicate 64 0) (omega (arith, k)) ∙ omega (arith, k, is, stock.short)
+module _ {counts : List ℕ} {n : ℕ} (is : n ≡ min 65 (sum counts)) (stock : IsStock counts) where
+  pub few : n ≤ 64
+  few = omega (arith, is, stock.short)
+
+  pub as_long : length (take n (replicate {A = ℕ} 64 0)) ≡ sum counts
+  as_long = length-take-le n (replicate 64 0) few ∙ omega (arith, is, stock.short)
 
 module _ (counts : List ℕ) (at : ℕ) (buffer : List ℕ) where
   abbrev nos : List No

@@ -16,7 +16,7 @@ use drawers::strip::dictionary_strip;
 use entries::entry_of;
 use numbering::number_of;
 use numbering::strip::strip;
-use stock::{Refusal, blocks};
+use stock::{Refusal, blocks, check_stock};
 
 // The two lists of a stock's strips.
 #[derive(Clone, Copy)]
@@ -48,13 +48,20 @@ impl Listing {
     }
 }
 
-// The number in one list of the strip that has a number in the other. The word has as many places as the stock has blocks, so laying refuses by all that
-// refuses the conversion, and never by 4. Both calls that lay answer C's record, and that is handed on.
+// The number in one list of the strip that has a number in the other. A stock is checked before its blocks are counted, since one that is refused may have any
+// number of kinds. The word has as many places as the stock has blocks, so laying refuses by all else that refuses the conversion, and never by 4. Both calls
+// that lay answer C's record, and that is handed on.
 fn convert(stock: &[u16], number: u64, from: Listing, to: Listing) -> Filed
     ensures { result ≡ convert_answer (list_of from stock.now) (list_of to stock.now) stock.now number }
 {
+    if let Err(refused) = check_stock(stock) {
+        return Filed {
+            refusal: refused.into(),
+            number: 0,
+        };
+    }
     let mut buffer = [0; 64];
-    let word = &mut buffer[..blocks(stock).min(64)];
+    let word = &mut buffer[..blocks(stock)];
     let refusal = from.lay(stock, number, word);
     let number = if refusal.no == 0 {
         to.place(stock, word)

@@ -1,13 +1,16 @@
 -- Proofs. Flags: setting the one of a strip, a pass over all of them, and what they say of the book that they belong to.
-use Prim.Native.Nat.{ℕ, suc, ◌≤◌, ◌<◌, suc-le-suc}
+use Prim.Native.Nat.{ℕ, suc, ◌+◌, ◌≤◌, ◌<◌, suc-le-suc}
 use mathlib.Core.Path.{◌≡◌, refl, ◌∙◌}
 use mathlib.Core.Bool.{Bool, true, false, not, cond, ◌||◌}
 use mathlib.Core.List.{List, [], ◌∷◌}
 use native.Mathlib.Decide.{ℕ_discrete}
+use native.Mathlib.Numerals.{add-one}
 use native.Mathlib.Omega.{arith}
 use borrow.Author.Tests.{eq-eqb, ne_eqb}
-use lib.ListN.{length, get_or, set, take, replicate, length-replicate, get_or-replicate}
-use lib.Seq.{length-take-le, get_or-take, get_or-set_same, get_or-set_other}
+use lib.ListN.{length, get_or, set, take, drop, replicate, drop_of_length-le, length-replicate, get_or-replicate}
+use mir.Val.{bool_byte}
+use Rattle.std.proofs.Common.{slice_index_or}
+use lib.Seq.{drop-cons, length-take-le, get_or-take, get_or-set_same, get_or-set_other}
 use Rattle.std.proofs.lemmas.List.Sums.{sum_by-cons}
 use Rattle.rules.specs.Stock.{total, tally, IsStrip}
 use Rattle.rules.specs.Book.{book, same, place_in, ahead}
@@ -45,6 +48,26 @@ counted_more false flags = omega (arith, sum_by-cons (λ set. cond set 1 0) fals
 clear_further : (b : Bool) (flags : List Bool) → first_clear_place (b ∷ flags) ≡ ahead (not b) (first_clear_place flags)
 clear_further true flags = omega arith
 clear_further false flags = refl
+
+-- ---- counting those that are set: the flag at a place, as the byte that it is, and those behind it
+
+byte_few : (b : Bool) → bool_byte b ≤ 1
+byte_few true = omega arith
+byte_few false = omega arith
+
+tallied : (b : Bool) (n : ℕ) → tally b n ≡ bool_byte b + n
+tallied true n = omega arith
+tallied false n = omega arith
+
+module _ (flags : List Bool) (i : ℕ) where
+  pub set_few : bool_byte (slice_index_or flags i false) ≤ 1
+  set_few = byte_few (slice_index_or flags i false)
+
+  pub set_on : i < length flags → how_many_set (drop i flags) ≡ bool_byte (slice_index_or flags i false) + how_many_set (drop (i + 1) flags)
+  set_on h = rw (add-one i, drop-cons flags i false h) (counted_more (get_or flags i false) (drop (suc i) flags) ∙ tallied (get_or flags i false) (how_many_set (drop (suc i) flags)))
+
+  pub set_end : length flags ≤ i → how_many_set (drop i flags) ≡ 0
+  set_end h = rw (drop_of_length-le flags h)
 
 -- ---- what the flags of a book say
 

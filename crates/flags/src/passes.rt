@@ -2,11 +2,15 @@
 ghost use Rattle.std.specs.Prelude.{◌≡◌};
 ghost use Rattle.flags.specs.Flags.{how_many_set, first_clear_place};
 
-// How many flags are set.
+// How many flags are set. A filter that counts them has a branch at each flag, and takes longer than this sum.
 pub fn how_many(flags: &[bool]) -> usize
     ensures { result ≡ how_many_set flags.now }
 {
-    flags.iter().filter(|set| **set).count()
+    let mut many = 0;
+    for set in flags {
+        many += usize::from(*set);
+    }
+    many
 }
 
 // The first number whose flag is clear; how many flags there are where none is. Both are told by the flags that are set ahead of

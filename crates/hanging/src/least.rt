@@ -4,7 +4,6 @@ ghost use Rattle.papers.specs.Blocks.{as_hung};
 ghost use Rattle.hanging.specs.Least.{Least};
 
 use papers::Hung;
-use std::cmp::Ordering;
 
 // The smallest number of places to turn a strip by, as it hangs, to have the smallest of its turns. The turn by t places is held against the one by `best`
 // places, k blocks of the two being alike. The one that comes later is out, and so are those by up to k places more than it, since the other's turns by as
@@ -21,18 +20,17 @@ pub fn least_turn(paper: Hung) -> usize
         let one = paper.block_at(t + k);
         let other = paper.block_at(best + k);
         let next = k + 1;
-        match one.cmp(&other) {
-            Ordering::Less => {
-                best = t.max(best + next);
-                t = best + 1;
-                k = 0;
-            }
-            Ordering::Greater => {
-                t += next;
-                k = 0;
-            }
-            Ordering::Equal if next < n => k = next,
-            Ordering::Equal => return best,
+        if one < other {
+            best = t.max(best + next);
+            t = best + 1;
+            k = 0;
+        } else if other < one {
+            t += next;
+            k = 0;
+        } else if next < n {
+            k = next;
+        } else {
+            return best;
         }
     }
     best

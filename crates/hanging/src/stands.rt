@@ -7,7 +7,6 @@ ghost use Rattle.dictionary.specs.Dictionary.{before};
 ghost use Rattle.standing.specs.Standing.{stands_for_paper};
 
 use papers::Hung;
-use std::cmp::Ordering;
 
 // Whether a turn of a strip, as it hangs, comes before the strip; foot up it is known that none does as it stands. The turn by t places is held against the
 // strip, k blocks of the two being alike. Where the turn comes later, so do those by up to k places more, since the strip's own turns by t places fewer come
@@ -25,15 +24,17 @@ fn some_before(paper: Hung) -> bool
     while t < n {
         let one = paper.block_at(t + k);
         let other = paper.strip[k];
+        if one < other {
+            return true;
+        }
         let next = k + 1;
-        match one.cmp(&other) {
-            Ordering::Less => return true,
-            Ordering::Greater => {
-                t += next;
-                k = 0;
-            }
-            Ordering::Equal if next < n => k = next,
-            Ordering::Equal => return false,
+        if other < one {
+            t += next;
+            k = 0;
+        } else if next < n {
+            k = next;
+        } else {
+            return false;
         }
     }
     false

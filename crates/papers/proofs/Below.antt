@@ -1,4 +1,4 @@
--- Proofs. What `all` and `any` over the numbers below n tell, number by number.
+-- Proofs. What `any` over the numbers below n tells, number by number.
 use Prim.Native.Nat.{ℕ, ◌<◌}
 use mathlib.Core.Path.{◌∙◌, subst}
 use mathlib.Core.Bool.{Bool, true, false}
@@ -22,10 +22,6 @@ module _ (n : ℕ) (Yes No : ℕ → Type 0) where
 
   some_at : (P : ℕ → Type 0) → (k : ℕ) × (k < length numbers) × HoldsAt P numbers k → (k : ℕ) × (k < n) × P k
   some_at P (k, l, h) = let m : k < n = omega (arith, length-range_with_len 0 n) in (k, m, at P k m (h 0))
-
-  pub all_below : (r : Bool) → MatchBool r (AllWithin Yes numbers 0 (length numbers)) ((k : ℕ) × (k < length numbers) × HoldsAt No numbers k) → MatchBool r ((k : ℕ) → k < n → Yes k) ((k : ℕ) × (k < n) × No k)
-  all_below true a = all_at Yes a
-  all_below false a = some_at No a
 
   pub any_below : (r : Bool) → MatchBool r ((k : ℕ) × (k < length numbers) × HoldsAt Yes numbers k) (AllWithin No numbers 0 (length numbers)) → MatchBool r ((k : ℕ) × (k < n) × Yes k) ((k : ℕ) → k < n → No k)
   any_below true a = some_at Yes a

@@ -27,7 +27,12 @@ fn turned_by(first: Hung, second: &[u8], t: usize) -> bool
     requires below { t < length first.strip.now }
     ensures { result ≡ same (turned t (as_hung first.entry)) second.now }
 {
-    (0..second.len()).all(|i| first.block_at(i + t) == second[i])
+    for i in 0..first.strip.len() {
+        if first.block_at(i + t) != second[i] {
+            return false;
+        }
+    }
+    true
 }
 
 // Whether the second strip is the first, as it hangs, turned by some number of places.

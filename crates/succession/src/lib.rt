@@ -3,5 +3,6 @@
 
 mod ends;
 mod step;
+mod tail;
 
 pub use step::next_entry;

@@ -4,6 +4,7 @@ ghost use Rattle.rules.specs.Stock.{IsStrip};
 ghost use Rattle.succession.specs.Steps.{Advanced};
 
 use crate::ends::{last_above, last_rise};
+use crate::tail::turn_tail;
 
 // The strip becomes the entry after it in the dictionary of its stock, and true; or it is the last, stays, and false, which is all that there is to answer. The
 // stock is not looked at.
@@ -17,6 +18,6 @@ pub fn next_entry(strip: &mut [u8]) -> bool
     let behind = at + 1;
     let higher = last_above(strip, behind, strip[at]);
     strip.swap(at, higher);
-    strip[behind..].reverse();
+    turn_tail(strip, behind);
     true
 }

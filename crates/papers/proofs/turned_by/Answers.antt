@@ -1,19 +1,20 @@
 -- `papers::turned_by` meets its contract: the blocks are alike at every place, or not at some.
-use Prim.Native.Nat.{ℕ}
+use mathlib.Core.Path.{sym, ◌∙◌}
+use mathlib.Core.Bool.{true, false}
+use native.Mathlib.Decide.{ℕ_discrete}
 use native.Mathlib.Omega.{arith}
-use lib.ListN.{length}
-use Rattle.std.proofs.Common.{rules, tests}
-use Rattle.std.proofs.lemmas.Iterator.{cases_from_all, YieldsList-from_range}
-use Rattle.papers.proofs.Below.{all_below}
-use Rattle.papers.proofs.Turning.{Alike, turn_agrees}
+use Rattle.papers.proofs.Turning.{turn_agrees}
 use Rattle.papers.proofs.turned_by.Goals as goal
 
+pub returns-then-block_at-second : goal.returns-then-block_at-second
+returns-then-block_at-second c =
+    turn_agrees _ _ _ _ c.requires.below c.requires.long false (c.loop-i.i, omega (arith, c.requires.long), λ e. omega (arith, c.block_at.ensures, e))
+
+pub loop-i-preserved : goal.loop-i-preserved
+loop-i-preserved c k l = elim (ℕ_discrete k c.loop-i.i) [
+  | yes e ↦ rw e (sym c.block_at.ensures ∙ c.if-block_at-second.false)
+  | no h ↦ c.loop-i.invariant k (omega arith)
+]
+
 pub returns : goal.returns
-returns c =
-    let a = c.args in
-    let n = length a.second.now in
-    let same_there : ℕ → Type 0 = Alike a.first.strip.now a.first.back a.second.now a.t in
-    let other_there : ℕ → Type 0 = λ i. same_there i → ⊥ in
-    turn_agrees _ _ _ _ c.requires.below c.requires.long _
-    (all_below n same_there other_there _
-    (cases_from_all _ _ _ same_there other_there c.all.ensures.ran (YieldsList-from_range 0 n n (cc) (omega arith)) (λ x q k. search (rules, tests)) (λ x q k. search (rules, tests))))
+returns c = turn_agrees _ _ _ _ c.requires.below c.requires.long true (λ k l. c.loop-i.invariant k (omega (arith, c.requires.long)))

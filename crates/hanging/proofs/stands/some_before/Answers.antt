@@ -3,8 +3,6 @@ use Prim.Native.Nat.{◌+◌}
 use mathlib.Core.Path.{◌≡◌}
 use native.Mathlib.Omega.{arith}
 use lib.ListN.{get_or}
-use Rattle.std.proofs.Common.{Less, Equal, Greater}
-use Rattle.std.proofs.lemmas.Cmp.{ranked}
 use Rattle.hanging.proofs.SomeBefore.{NoneBefore, none_start, none_alike, none_later, one_before, none_before, none_round}
 use Rattle.hanging.proofs.stands.some_before.Goals as goal
 use Rattle.hanging.proofs.stands.some_before.Goals.{After-block_at-one}
@@ -18,18 +16,17 @@ loop-t-init c =
     let w = none_start _ c.requires.some _ c.requires.there _ c.from-t.ensures in
     (omega (arith, w.0, c.requires.some), c.requires.some, w.1)
 
-pub returns-in-Less : goal.returns-in-Less
-returns-in-Less c = one_before _ c.requires.some _ c.requires.there _ _ c.loop-t.invariant.2 (omega arith) (omega arith) (omega (arith, c.block_at-one.ensures, ranked c.block_at-one.result (get_or c.args.paper.strip.now c.loop-t.k 0) Less c.in-Less.ensures))
+pub returns-then-one-other : goal.returns-then-one-other
+returns-then-one-other c = one_before _ c.requires.some _ c.requires.there _ _ c.loop-t.invariant.2 (omega arith) (omega arith) (omega (arith, c.block_at-one.ensures))
 
-pub loop-t-preserved-in-Greater : goal.loop-t-preserved-in-Greater
-loop-t-preserved-in-Greater c =
-    (omega arith, omega arith, none_later _ c.requires.some _ c.requires.there _ _ c.loop-t.invariant.2 (omega arith) (omega (arith, c.block_at-one.ensures, ranked c.block_at-one.result (get_or c.args.paper.strip.now c.loop-t.k 0) Greater c.in-Greater.ensures)))
+pub loop-t-preserved-then-other-one : goal.loop-t-preserved-then-other-one
+loop-t-preserved-then-other-one c = (omega arith, omega arith, none_later _ c.requires.some _ c.requires.there _ _ c.loop-t.invariant.2 (omega arith) (omega (arith, c.block_at-one.ensures)))
 
 pub loop-t-preserved : goal.loop-t-preserved
-loop-t-preserved c = (omega arith, omega arith, alike (goal.at.loop-t-preserved c).After-block_at-one (omega (arith, ranked c.block_at-one.result (get_or c.args.paper.strip.now c.loop-t.k 0) Equal c.in-Equal.ensures)))
+loop-t-preserved c = (omega arith, omega arith, alike (goal.at.loop-t-preserved c).After-block_at-one (omega arith))
 
-pub returns-in-Equal-2 : goal.returns-in-Equal-2
-returns-in-Equal-2 c = none_round _ c.requires.some _ c.requires.there _ _ (alike (goal.at.returns-in-Equal-2 c).After-block_at-one (omega (arith, ranked c.block_at-one.result (get_or c.args.paper.strip.now c.loop-t.k 0) Equal c.in-Equal-2.ensures))) (omega arith)
+pub returns-else-next-n : goal.returns-else-next-n
+returns-else-next-n c = none_round _ c.requires.some _ c.requires.there _ _ (alike (goal.at.returns-else-next-n c).After-block_at-one (omega arith)) (omega arith)
 
 pub returns : goal.returns
 returns c = none_before _ c.requires.some _ c.requires.there _ _ c.loop-t.invariant.2 (omega arith)
