@@ -4,16 +4,15 @@ use mathlib.Core.Path.{◌≡◌, refl, sym, ap, ◌∙◌}
 use mathlib.Core.Bool.{Bool, true, false, not, beq}
 use mathlib.Core.List.{List, ◌∷◌, reverse}
 use native.Mathlib.Omega.{arith}
-use borrow.Author.Tests.{eq-eqb, ne_eqb}
 use lib.ListN.{length, get_or, take}
-use lib.Seq.{length-take-le}
+use lib.Seq.{take_all, length-take-le}
 use Rattle.rules.specs.Stock.{binom}
-use Rattle.rules.specs.Book.{R, Word, pattern, odd}
+use Rattle.rules.specs.Book.{K, R, Word, pattern, odd}
 use Rattle.rules.proofs.Listed.{face, flip, flip_not, flip_false, flip_flip, differs}
 use Rattle.rules.proofs.Patterns.{count_r, rank, listed_l, binom_self, rank_k, rank_r}
 use Rattle.rules.proofs.Numbers.{odd_add}
-use Rattle.rules.proofs.Last.{rev_one}
 use Rattle.rules.proofs.Index.{index, rests, rests_le, rests_k, rests_turned, index_turned, length_turned}
+use Rattle.rules.proofs.LettersLeft.{letters_left, left_long, left_k, left_r}
 
 -- ---- parities
 
@@ -65,13 +64,18 @@ module _ {j : ℕ} {w v : List ℕ} {b : ℕ} {turned so_far : Bool} (s : FromEn
     u = take a v
 
     abbrev p : Word
-    p = pattern j (reverse u)
+    p = letters_left j v a
 
     pub shorter : length u ≡ a
     shorter = length-take-le a v (omega arith)
 
     long : length p ≡ a
-    long = length_turned j u ∙ shorter
+    long = left_long j v a (omega arith)
+
+    whole : letters_left j v (suc a) ≡ pattern j (reverse v)
+    whole =
+        let e : suc a ≡ length v = omega arith in
+        rw (e, take_all (length v) v (omega arith))
 
     module _ (k : get_or v a 0 ≡ j) where
       rest_k : b ≡ rests j u
@@ -80,9 +84,11 @@ module _ {j : ℕ} {w v : List ℕ} {b : ℕ} {turned so_far : Bool} (s : FromEn
       counted : count_r p ≡ b
       counted = sym (rest_k ∙ rests_turned j u)
 
+      last_k : pattern j (reverse v) ≡ K ∷ p
+      last_k = sym whole ∙ left_k j v a (omega arith) k
+
       parity_k : odd (index j w) ≡ flip so_far (odd (face turned (binom a b) (rank false p)))
-      unfolding pattern
-      parity_k = (rw (rev_one v some, eq-eqb _ j k) at s.parity) ∙ ap (λ (n : ℕ). flip so_far (odd n)) (rank_k turned a b p (long, counted))
+      parity_k = s.parity ∙ ap (λ (n : ℕ). flip so_far (odd n)) (ap (rank turned) last_k ∙ rank_k turned a b p (long, counted))
 
       below_k : rank false p < binom a b
       below_k = (listed_l false a b).below p (long, counted)
@@ -96,15 +102,16 @@ module _ {j : ℕ} {w v : List ℕ} {b : ℕ} {turned so_far : Bool} (s : FromEn
       on_turned t is = record { rest = rest_k; parity = rw (is, shorter) ((rw t at parity_k) ∙ ap (flip so_far) (odd_back (binom a b) _ below_k) ∙ alike so_far (odd (binom a b)) _) }
 
     module _ (k : get_or v a 0 ≡ j → ⊥) where
+      last_r : pattern j (reverse v) ≡ R ∷ p
+      last_r = sym whole ∙ left_r j v a (omega arith) k
+
       one_less : b ≡ suc (count_r p)
-      unfolding pattern
-      one_less = s.rest ∙ (rw (rev_one v some, ne_eqb _ j k) at (rests_turned j v))
+      one_less = s.rest ∙ rests_turned j v ∙ ap count_r last_r
 
       parity_r : odd (index j w) ≡ flip so_far (flip (odd (binom a b)) (odd (rank (not turned) p)))
-      unfolding pattern
       parity_r =
           let e : rank turned (R ∷ p) ≡ binom a b + rank (not turned) p = rank_r turned a (count_r p) p (long, refl) ∙ rw (← one_less) in
-          (rw (rev_one v some, ne_eqb _ j k) at s.parity) ∙ ap (λ (n : ℕ). flip so_far (odd n)) e ∙ ap (flip so_far) (odd_add (binom a b) (rank (not turned) p))
+          s.parity ∙ ap (λ (n : ℕ). flip so_far (odd n)) (ap (rank turned) last_r ∙ e) ∙ ap (flip so_far) (odd_add (binom a b) (rank (not turned) p))
 
       pub on_r : {odd_in_k : Bool} → odd_in_k ≡ odd (binom (length u) b) → FromEnd j w u (b - 1) (not turned) (not (beq so_far odd_in_k))
       on_r is = record { rest = omega (arith, one_less, rests_turned j u); parity = rw (is, shorter) (parity_r ∙ unlike so_far (odd (binom a b)) _) }
