@@ -5,13 +5,23 @@
 use printout::{Line, Listing, each_line, read_full};
 use std::io::{self, Stdout};
 
+// A line behind the sixth may be the last: it is held in place of the one held before it, and what is held at the end is written. Where none was held, that is
+// no byte, and nothing is written. Every line fits what holds it, but a closure does not know that of the lines that it may be handed, and so it asks.
 fn show(stdout: Stdout, input: &[u8], listing: Listing) -> io::Result<()> {
+    let mut held = [0u8; 256];
+    let mut length = 0;
     each_line(input, listing, |line: Line<'_>| {
-        if line.index < 6 || line.last {
+        if line.index < 6 {
             stdout.write_all(line.bytes)?;
+        } else if let Some(front) = held.get_mut(..line.bytes.len()) {
+            front.copy_from_slice(line.bytes);
+            length = line.bytes.len();
         }
         Ok(())
     })?;
+    if let Some(last) = held.get(..length) {
+        stdout.write_all(last)?;
+    }
     stdout.write_all(b"%\n")
 }
 

@@ -1,6 +1,6 @@
 -- Proofs: nobody needs to read these to know what holds.
 pub mod Steps
-mod Next
+pub mod Next
 mod Took
 mod Moving
 mod Underway

@@ -11,7 +11,7 @@ use papers::Hung;
 // Whether a turn of a strip, as it hangs, comes before the strip; foot up it is known that none does as it stands. The turn by t places is held against the
 // strip, k blocks of the two being alike. Where the turn comes later, so do those by up to k places more, since the strip's own turns by t places fewer come
 // before them: none of them is looked at, so t jumps, and no `for` counts it. The first block that shows that a turn comes before the strip is the last that
-// is looked at.
+// is looked at. The blocks are compared by `<`: a `match` on `cmp` takes longer.
 fn some_before(paper: Hung) -> bool
     requires some { 0 < length paper.strip.now }
     requires there { paper.back ≡ true → some (λ t. before t paper.strip.now) (turns_of (hung false paper.strip.now)) ≡ false }

@@ -7,16 +7,15 @@ pub use printing::printer::Listing;
 use printing::printer::{first_line, next_line};
 use std::io::{self, Read, Stdin, Stdout};
 
-// A line that is printed: its bytes, its index, and whether it is the last.
+// A line that is printed: its bytes and its index.
 #[derive(Clone, Copy)]
 pub struct Line<'a> {
     pub bytes: &'a [u8],
     pub index: usize,
-    pub last: bool,
 }
 
-// Hands on the lines for an input, one after the other. No output has more than 4,096. A line is held until it is known whether there is a next one. It fails
-// only where what it hands a line to does.
+// Hands on the lines for an input, one after the other. No output has more than 4,096. A line is handed on before the next is looked for, which may take long.
+// It fails only where what it hands a line to does.
 pub fn each_line<F: FnMut(Line<'_>) -> io::Result<()>>(
     input: &[u8],
     listing: Listing,
@@ -28,15 +27,11 @@ pub fn each_line<F: FnMut(Line<'_>) -> io::Result<()>>(
     let mut line = [0u8; 256];
     let mut printed = first_line(input, listing, &mut line);
     for index in 0..4096 {
-        let held = line;
-        let length = printed.length;
-        let next = next_line(printed.printer, &mut line);
         put(Line {
-            bytes: &held[..length],
+            bytes: &line[..printed.length],
             index,
-            last: next.is_none(),
         })?;
-        let Some(next) = next else {
+        let Some(next) = next_line(printed.printer, &mut line) else {
             return Ok(());
         };
         printed = next;

@@ -1,11 +1,10 @@
 -- Proofs. Reading a whole sheet, step by step as the code finds it: refused by 4, by its first two records or by what follows them, or read to its end.
 use Prim.Native.Nat.{ℕ, ◌≤◌, ◌<◌}
-use mathlib.Core.Path.{◌≡◌, refl, sym, ap, ◌∙◌}
+use mathlib.Core.Path.{◌≡◌, sym, ap, ◌∙◌}
 use mathlib.Core.Bool.{Bool}
 use mathlib.Core.List.{List, [], ◌∷◌, ◌++◌}
 use borrow.Author.Tests.{lt-ltb}
-use lib.ListN.{length, take, drop}
-use lib.Seq.{take_at}
+use lib.ListN.{length, drop}
 use Rattle.std.specs.Prelude.{Result, Ok, Err}
 use Rattle.std.specs.Result.{IsErrAnd}
 use Rattle.std.proofs.lemmas.Result.{err_from_is_err_and}
@@ -13,7 +12,7 @@ use Rattle.rules.specs.Stock.{sum, IsStock, IsStrip}
 use Rattle.rules.specs.Refusals.{fine, first_of}
 use Rattle.rules.proofs.Refusals.{first_stopped}
 use Rattle.rules.proofs.Checks.{accepted_both}
-use Rattle.rules.proofs.Strips.{strip_sum, strip_fits}
+use Rattle.rules.proofs.Strips.{strip_sum}
 use Rattle.stock.specs.declared.refused.Reason.TheVariants.{Length}
 use Rattle.stock.specs.declared.refused.Refused.{Refused}
 use Rattle.stock.specs.Refused.{no_of, answered}
@@ -81,10 +80,3 @@ module _ (o : Opening) where
 
   pub held_long : length (held_strip o) ≡ sum (held_stock o)
   held_long = strip_sum (held_stock o) (held_strip o) held_sound.1
-
-  pub held_short : length (held_strip o) ≤ 64
-  held_short = strip_fits (held_stock o) (held_strip o) held_sound.0 held_sound.1
-
--- a strip at the front of a word
-pub front_is : (s z w : List ℕ) → w ≡ s ++ z → take (length s) w ≡ s
-front_is s z w e = ap (take (length s)) e ∙ take_at s z (length s) refl

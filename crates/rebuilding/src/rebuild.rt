@@ -54,7 +54,7 @@ fn check_and_rebuild(sheet: &[u8], out: &mut [u8]) -> Result<Proper, Refused>
         return Err(Reason::Record.at(0));
     }
     let opening = opening_at(sheet, 0)?;
-    rebuild_from(sheet, opening.stock(), opening.strip, out)
+    rebuild_from(sheet, opening.stock(), opening.strip(), out)
 }
 
 // Rebuilds a damaged sheet, which is only read, in a second buffer.

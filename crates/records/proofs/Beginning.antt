@@ -1,19 +1,21 @@
 -- Proofs. The stock record and the strip record after it: which refuses, and what is read where none does.
-use Prim.Native.Nat.{ℕ, ◌+◌, ◌<◌}
+use Prim.Native.Nat.{ℕ, ◌+◌, ◌-◌, ◌≤◌, ◌<◌}
 use mathlib.Core.Path.{◌≡◌, sym, ap, ◌∙◌}
-use mathlib.Core.List.{List}
+use mathlib.Core.List.{List, ◌++◌}
 use native.Mathlib.Omega.{arith}
-use lib.ListN.{length}
+use lib.ListN.{length, take, replicate}
 use Rattle.rules.specs.Stock.{IsStock, IsStrip}
 use Rattle.std.specs.Prelude.{Result, Ok}
 use Rattle.std.specs.Result.{IsErrAnd}
 use Rattle.std.proofs.lemmas.Result.{err_from_is_err_and}
 use Rattle.rules.specs.Refusals.{No, fine, first_of, check_nos}
 use Rattle.rules.proofs.Refusals.{passed_both}
-use Rattle.rules.proofs.Checks.{passed_head, accepted_both_back}
+use Rattle.rules.proofs.Checks.{passed_head, accepted_both, accepted_both_back}
+use Rattle.rules.proofs.Strips.{strip_fits}
 use Rattle.stock.specs.declared.refused.Refused.{Refused}
 use Rattle.stock.specs.Refused.{no_of}
 use Rattle.stock.proofs.Told.{stopped_first, passed_next}
+use Rattle.copying.proofs.Copies.{copy_length, copy_start}
 use Rattle.records.specs.declared.held.Opening.{Opening}
 use Rattle.records.specs.Opened.{stock_at, strip_at, stock_at_nos, strip_at_nos, opening_nos, held_stock, held_strip, Opened}
 use Rattle.records.proofs.Checking.{record_fits, stock_accepted, strip_accepted}
@@ -65,6 +67,20 @@ module _ (at : ℕ) (sheet : List ℕ) where
     module _ (second : fine ≡ first_of (strip_at_nos counts (at + 17) sheet)) (s : List ℕ) (own : s ≡ strip_at counts (at + 17) sheet) where
       pub both_sound : (first_of (check_nos counts s)).0 ≡ 0
       both_sound = accepted_both_back counts s counts_stock (rw own (strip_accepted counts counts_stock (at + 17) sheet (sym (ap (λ (r : No). r.0) second))))
+
+      pub read_short : length s ≤ 64
+      read_short = strip_fits counts s counts_stock (accepted_both counts s both_sound).1
+
+      -- and its copy, with the zeros behind it
+      module _ (word : List ℕ) (copy : word ≡ s ++ replicate (64 - length s) 0) where
+        pub word_long : length s ≤ length word
+        word_long = omega (arith, copy_length 64 s word copy read_short, read_short)
+
+        pub word_start : take (length s) word ≡ s
+        word_start = copy_start 64 s word copy
+
+        pub word_sound : (first_of (check_nos counts (take (length s) word))).0 ≡ 0
+        word_sound = rw word_start both_sound
 
       pub both_read : (o : Opening) → held_stock o ≡ counts → held_strip o ≡ s → Opened at sheet (Ok o)
       unfolding opening_nos

@@ -1,5 +1,5 @@
 -- Proofs: nobody needs to read these to know what holds.
 pub mod BodyLaws
-mod Checking
+pub mod Checking
 pub mod Beginning
 pub mod FirstTwo

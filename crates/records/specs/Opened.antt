@@ -40,7 +40,7 @@ abbrev pub held_stock : Opening → List ℕ
 held_stock o = take o.kinds o.counts
 
 abbrev pub held_strip : Opening → List ℕ
-held_strip o = o.strip.now
+held_strip o = take o.blocks o.strip
 
 -- what is read of both records: the first refusal, or the stock and the strip
 pub record Opened (at : ℕ) (sheet : List ℕ) (r : Result Opening Refused) : Type 0 where

@@ -7,6 +7,7 @@ ghost use Rattle.records.specs.Opened.{stock_at, strip_at, stock_at_nos, strip_a
 
 use crate::Opening;
 use crate::bodies::{STOCK, STRIP, all_zero, check_record, counts_at, used_kinds};
+use copying::copied;
 use stock::{Reason, Refused, blocks, check_stock, check_strip_only};
 
 // The counts of the stock record at a byte and how many of them are used, or the first refusal of the record: 11, then 1, 2, 3.
@@ -38,7 +39,7 @@ fn read_strip<'a>(sheet: &'a [u8], at: usize, stock: &[u16]) -> Result<&'a [u8],
 }
 
 // The stock and the strip of the two records at a byte, or the first refusal of the stock record, then of the strip record after it.
-pub fn opening_at<'a>(sheet: &'a [u8], at: usize) -> Result<Opening<'a>, Refused>
+pub fn opening_at(sheet: &[u8], at: usize) -> Result<Opening, Refused>
     ensures { Opened at sheet.now result }
 {
     let (counts, kinds) = read_stock(sheet, at)?;
@@ -46,6 +47,7 @@ pub fn opening_at<'a>(sheet: &'a [u8], at: usize) -> Result<Opening<'a>, Refused
     Ok(Opening {
         counts,
         kinds,
-        strip,
+        strip: copied(strip),
+        blocks: strip.len(),
     })
 }

@@ -19,7 +19,7 @@ fn read_and_write(sheet: &[u8], out: &mut [u8]) -> Result<u64, Refused>
     let mut last: [u8; 64] = [0; 64];
     let moves = read_whole(sheet, &mut last, Edition::Second)?;
     let opening = opening_at(sheet, 0)?;
-    write_form(opening.stock(), opening.strip, moves, out)
+    write_form(opening.stock(), opening.strip(), moves, out)
 }
 
 // The same, as C is told of it.

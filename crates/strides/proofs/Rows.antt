@@ -91,7 +91,7 @@ module _ (counts s : List ℕ) (n : ℕ) where
 
     -- ---- and back: what the number of the refusal says
 
-    seven_many : (first_of (stride_nos counts s n)).0 ≡ 7 → 2 ^ 64 ≤ total counts
+    pub seven_many : (first_of (stride_nos counts s n)).0 ≡ 7 → 2 ^ 64 ≤ total counts
     seven_many e = elim (dec_lt (total counts) (2 ^ 64)) [
       | yes few ↦ elim (dec_lt (left counts s) n) [
         | yes l ↦ absurd (omega (arith, e, ap (λ (r : No). r.0) (rows_past two few l)))

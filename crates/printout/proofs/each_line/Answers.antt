@@ -12,7 +12,7 @@ loop-index-init g c =
 
 pub loop-index-preserved : goal.loop-index-preserved
 loop-index-preserved g c =
-    let n = c.next_line-next in
+    let n = c.next_line in
     let l = c.loop-index in
     let k = next_gives _ _ _ _ l.invariant.sound (rw c.in-Some.is at n.ensures) in
     record { callable = search of_calls; room = n.auto.line ∙ l.invariant.room; inside = k.inside; sound = k.sound }

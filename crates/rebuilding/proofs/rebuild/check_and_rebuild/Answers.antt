@@ -10,4 +10,4 @@ pub returns-in_err-opening : goal.returns-in_err-opening
 returns-in_err-opening c = records_refused _ _ (omega arith) _ c.in_err-opening.ensures _ c.from_residual.ensures.1
 
 pub rebuild_from-requires : goal.rebuild_from-requires
-rebuild_from-requires c = rw c.stock.ensures (sound _ _ c.in_ok-opening.ensures)
+rebuild_from-requires c = rw (c.stock.ensures, c.strip.ensures) (sound _ _ c.in_ok-opening.ensures)

@@ -1,7 +1,7 @@
 -- `records::opening::opening_at` meets its contract: the stock record, then the strip record behind it.
 use mathlib.Core.Path.{refl}
 use native.Mathlib.Omega.{arith}
-use Rattle.records.proofs.Beginning.{stock_stopped, counts_stock, strip_stopped, both_sound, both_read, stock_fits}
+use Rattle.records.proofs.Beginning.{stock_stopped, counts_stock, strip_stopped, read_short, word_long, word_start, word_sound, both_read, stock_fits}
 use Rattle.records.proofs.opening.opening_at.Goals as goal
 
 pub returns-in_err-counts : goal.returns-in_err-counts
@@ -22,10 +22,21 @@ pub invariant_of-result : goal.invariant_of-result
 invariant_of-result c =
     let p = c.in_ok-counts.ensures in
     let q = c.in_ok-strip.ensures in
-    record { used = p.held.0; sound = both_sound _ _ p.refused _ p.held.1 q.refused _ q.held }
+    let w = c.copied.ensures in
+    record {
+      used = p.held.0;
+      within = word_long _ _ p.refused _ p.held.1 q.refused _ q.held _ w;
+      sound = word_sound _ _ p.refused _ p.held.1 q.refused _ q.held _ w;
+    }
+
+pub copied-requires : goal.copied-requires
+copied-requires c =
+    let p = c.in_ok-counts.ensures in
+    let q = c.in_ok-strip.ensures in
+    read_short _ _ p.refused _ p.held.1 q.refused _ q.held
 
 pub returns : goal.returns
 returns c =
     let p = c.in_ok-counts.ensures in
     let q = c.in_ok-strip.ensures in
-    both_read _ _ p.refused _ p.held.1 q.refused _ q.held _ refl refl
+    both_read _ _ p.refused _ p.held.1 q.refused _ q.held _ refl (word_start _ _ p.refused _ p.held.1 q.refused _ q.held _ c.copied.ensures)
