@@ -55,10 +55,7 @@ fn convert(stock: &[u16], number: u64, from: Listing, to: Listing) -> Filed
     ensures { result ≡ convert_answer (list_of from stock.now) (list_of to stock.now) stock.now number }
 {
     if let Err(refused) = check_stock(stock) {
-        return Filed {
-            refusal: refused.into(),
-            number: 0,
-        };
+        return Err(refused).into();
     }
     let mut buffer = [0; 64];
     let word = &mut buffer[..blocks(stock)];
